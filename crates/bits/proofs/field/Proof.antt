@@ -1,14 +1,11 @@
 -- `bits::field` meets its contract. The loop's invariant: r is the value of the i bits passed.
-use Prim.Native.Nat.{_≤_, _-_, _+_, _*_}
-use mathlib.Core.Path.{_≡_, refl, sym, _∙_, ap}
+use Prim.Native.Nat.{_≤_, _-_}
+use mathlib.Core.Path.{_≡_, refl}
 use native.Mathlib.Omega.{arith}
 use Rattle.bits.specs.Bits.{bitsValue}
 use Rattle.bits.proofs.Laws.{bits-lt, bits-step, bits-20}
 use Rattle.bits.proofs.field.Statement.{statement}
 use Rattle.bits.proofs.field.Tie as tie
-use Rattle.bits.proofs.field.Reads as reads
-use Rattle.bits.proofs.field.Lts as lts
-use Rattle.bits.proofs.bit.Reads as bit-reads
 
 abbrev Inv-loop : tie.InvT-loop
 Inv-loop bytes at width r₀ i₀ r i = (i ≤ width) × (r ≡ bitsValue bytes at i)

@@ -1,0 +1,99 @@
+-- Laws of the table's definitions that the reader's loop goes by.
+use Prim.Native.Nat.{ℕ, _+_, _*_, _≤_, _<_}
+use mathlib.Core.Path.{_≡_, refl, sym, _∙_, ap}
+use mathlib.Core.List.{List}
+use mathlib.Core.Bool.{Bool, true, false, cond, not, _||_, xor}
+use native.Mathlib.Omega.{arith}
+use borrow.Author.Tests.{lt-ltb, le-ltb, ltb-false, eqb-true, not-false}
+use lib.ListN.{length, set}
+use lib.Dec.{ltb, eqb}
+use Rattle.lists.specs.Tab.{blank}
+use Rattle.lists.proofs.Tab.{filled-none, filled-more}
+use Rattle.lists.proofs.First.{first-is, first-none}
+use Rattle.table.specs.Row.{outside, taskOf, spareOf, judged, rowOf, numberOf}
+use Rattle.table.specs.Table.{GoodHeader, taskCount, processorCount, spareBits, headerNumber, rowBytes, rowNumber, firstBad, column, tableOf, refusal, accepted, rowsReading}
+use Rattle.table.specs.declared.Task.{Task}
+use Rattle.table.specs.declared.RowRead.{RowRead}
+use Rattle.table.specs.declared.RowRead.the-variants.{Good, BadPeriod, BadResource, Disagree, BadSum}
+
+clash : {X : Type 0} → _≡_ {A = ℕ} 0 1 → X
+clash z = absurd (omega arith)
+
+-- a number that is not outside lo to hi is in it
+pub inside : (x lo hi : ℕ) → outside x lo hi ≡ false → (lo ≤ x) × (x ≤ hi)
+unfolding outside
+inside x lo hi h = go (ltb x lo) (ltb hi x) refl refl h
+  where
+    go : (a b : Bool) → ltb x lo ≡ a → ltb hi x ≡ b → (a || b) ≡ false → (lo ≤ x) × (x ≤ hi)
+    go true b e f h = clash cc
+    go false b e f h = (ltb-false x lo e, ltb-false hi x (f ∙ h))
+
+-- a header that none of 1 to 5 refuses is good
+pub header-good : (bs : List ℕ) → headerNumber bs ≡ 0 → GoodHeader bs
+unfolding headerNumber
+header-good bs h =
+    go (ltb (length bs) 2) (outside (taskCount bs) 1 64) (outside (processorCount bs) 2 16) (ltb 0 (spareBits bs)) (not (eqb (length bs) (2 + 11 * taskCount bs)))
+    refl refl refl refl refl h
+  where
+    go : (b1 b2 b3 b4 b5 : Bool) → ltb (length bs) 2 ≡ b1 → outside (taskCount bs) 1 64 ≡ b2 → outside (processorCount bs) 2 16 ≡ b3 → ltb 0 (spareBits bs) ≡ b4 → not (eqb (length bs) (2 + 11 * taskCount bs)) ≡ b5 → _≡_ {A = ℕ} (cond b1 1 (cond b2 2 (cond b3 3 (cond b4 4 (cond b5 5 0))))) 0 → GoodHeader bs
+    go true b2 b3 b4 b5 e1 e2 e3 e4 e5 h = absurd (omega arith)
+    go false true b3 b4 b5 e1 e2 e3 e4 e5 h = absurd (omega arith)
+    go false false true b4 b5 e1 e2 e3 e4 e5 h = absurd (omega arith)
+    go false false false true b5 e1 e2 e3 e4 e5 h = absurd (omega arith)
+    go false false false false true e1 e2 e3 e4 e5 h = absurd (omega arith)
+    go false false false false false e1 e2 e3 e4 e5 h =
+        record {
+          rows = inside (taskCount bs) 1 64 e2;
+          processors = inside (processorCount bs) 2 16 e3;
+          whole = eqb-true (length bs) (2 + 11 * taskCount bs) (not-false _ e5);
+        }
+
+-- a good row is the task in its bytes
+pub good-task : (w : List ℕ) (t : Task) → rowOf w ≡ Good t → t ≡ taskOf w
+unfolding rowOf judged
+good-task w t h =
+    go (outside (taskOf w .period) 1 1000000)
+    (outside (taskOf w .resource) 0 16 || ltb 0 (spareOf w))
+    (xor (ltb 0 (taskOf w .a)) (ltb 0 (taskOf w .resource)))
+    (outside (taskOf w .c1 + taskOf w .a + taskOf w .c2) 1 (taskOf w .period)) h
+  where
+    go : (b1 b2 b3 b4 : Bool) → cond b1 BadPeriod (cond b2 BadResource (cond b3 Disagree (cond b4 BadSum (Good (taskOf w))))) ≡ Good t → t ≡ taskOf w
+    go true b2 b3 b4 e = clash cc
+    go false true b3 b4 e = clash cc
+    go false false true b4 e = clash cc
+    go false false false true e = clash cc
+    go false false false false e = cc
+
+pub good-number : (w : List ℕ) (t : Task) → rowOf w ≡ Good t → numberOf (rowOf w) ≡ 0
+unfolding numberOf
+good-number w t h = rw h
+
+module _ (bs : List ℕ) where
+  passes : (k : ℕ) → rowNumber bs k ≡ 0 → ltb 0 (rowNumber bs k) ≡ false
+  passes k h = le-ltb 0 (rowNumber bs k) (omega arith)
+
+  -- a bad row behind good ones is the refusal
+  pub rows-refused : (n m : ℕ) (npp : Bool) (i : ℕ) → i < n → ((k : ℕ) → k < i → rowNumber bs k ≡ 0) → 0 < rowNumber bs i → rowsReading bs n m npp ≡ refusal (rowNumber bs i) (i + 1)
+  unfolding rowsReading firstBad
+  rows-refused n m npp i l good bad =
+      let e : firstBad bs n ≡ i = first-is n (λ k. ltb 0 (rowNumber bs k)) i l (λ j h. passes j (good j h)) (lt-ltb 0 (rowNumber bs i) bad) in
+      rw (e, lt-ltb i n l)
+
+  -- good rows are the table
+  pub rows-accepted : (n m : ℕ) (npp : Bool) → ((k : ℕ) → k < n → rowNumber bs k ≡ 0) → rowsReading bs n m npp ≡ accepted (tableOf bs n m npp)
+  unfolding rowsReading firstBad
+  rows-accepted n m npp good =
+      let e : firstBad bs n ≡ n = first-none n (λ k. ltb 0 (rowNumber bs k)) (λ j h. passes j (good j h)) in
+      rw (e, le-ltb n n (omega arith))
+
+  pub column-none : (f : Task → ℕ) → column bs 0 f ≡ blank 64 0
+  unfolding column
+  column-none f = filled-none 64 0 (λ k. f (taskOf (rowBytes bs k)))
+
+  -- one more row in a column
+  pub column-more : (f : Task → ℕ) (i : ℕ) → i < 64 → (xs : List ℕ) (t : Task) → xs ≡ column bs i f → t ≡ taskOf (rowBytes bs i) → set xs i (f t) ≡ column bs (i + 1) f
+  unfolding column
+  column-more f i l xs t e h =
+      ap (λ (ys : List ℕ). set ys i (f t)) e
+      ∙ ap (λ (u : Task). set (column bs i f) i (f u)) h
+      ∙ filled-more 64 0 (λ k. f (taskOf (rowBytes bs k))) i l
