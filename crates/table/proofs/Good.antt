@@ -1,0 +1,97 @@
+-- A table that is read without refusal is good: every row keeps to the paper's limits.
+use Prim.Native.Nat.{ℕ, _+_, _≤_, _<_}
+use mathlib.Core.Path.{_≡_, refl, sym, _∙_, ap}
+use mathlib.Core.List.{List}
+use mathlib.Core.Bool.{Bool, true, false, cond, _||_, xor}
+use native.Mathlib.Omega.{arith}
+use borrow.Author.Tests.{lt-ltb, le-ltb, ltb-true, ltb-false}
+use lib.ListN.{getD}
+use lib.Dec.{ltb, eqb}
+use Rattle.lists.proofs.Tab.{getD-filled}
+use Rattle.lists.proofs.First.{first-no, first-yes}
+use Rattle.table.specs.Row.{outside, taskOf, spareOf, judged, rowOf, numberOf}
+use Rattle.table.specs.Table.{GoodHeader, taskCount, processorCount, protocolBit, headerNumber, rowBytes, rowNumber, firstBad, column, tableOf, refusal, accepted, rowsReading, readingOf}
+use Rattle.table.specs.Good.{GoodTask, taskAt, GoodTable}
+use Rattle.table.specs.declared.Task.{Task}
+use Rattle.table.specs.declared.Reading.{Reading}
+use Rattle.table.specs.declared.RowRead.{RowRead}
+use Rattle.table.specs.declared.RowRead.the-variants.{Good, BadPeriod, BadResource, Disagree, BadSum}
+use Rattle.table.proofs.Laws.{inside, header-good}
+
+or-left : (a b : Bool) → (a || b) ≡ false → a ≡ false
+or-left true b e = e
+or-left false b e = refl
+
+same : (a b : Bool) → xor a b ≡ false → a ≡ b
+unfolding xor
+same true true e = refl
+same true false e = e
+same false true e = sym e
+same false false e = refl
+
+-- a row that none of 6 to 9 refuses is good
+pub judged-good : (t : Task) (spare : ℕ) → numberOf (judged t spare) ≡ 0 → GoodTask t
+unfolding judged numberOf
+judged-good t spare h =
+    go (outside (t .period) 1 1000000) (outside (t .resource) 0 16 || ltb 0 spare) (xor (ltb 0 (t .a)) (ltb 0 (t .resource))) (outside (t .c1 + t .a + t .c2) 1 (t .period))
+    refl refl refl refl h
+  where
+    go : (b1 b2 b3 b4 : Bool) → outside (t .period) 1 1000000 ≡ b1 → (outside (t .resource) 0 16 || ltb 0 spare) ≡ b2 → xor (ltb 0 (t .a)) (ltb 0 (t .resource)) ≡ b3 → outside (t .c1 + t .a + t .c2) 1 (t .period) ≡ b4 → numberOf (cond b1 BadPeriod (cond b2 BadResource (cond b3 Disagree (cond b4 BadSum (Good t))))) ≡ 0 → GoodTask t
+    go true b2 b3 b4 e1 e2 e3 e4 h = absurd (omega arith)
+    go false true b3 b4 e1 e2 e3 e4 h = absurd (omega arith)
+    go false false true b4 e1 e2 e3 e4 h = absurd (omega arith)
+    go false false false true e1 e2 e3 e4 h = absurd (omega arith)
+    go false false false false e1 e2 e3 e4 h =
+        record {
+          period = inside (t .period) 1 1000000 e1;
+          resource = inside (t .resource) 0 16 (or-left (outside (t .resource) 0 16) (ltb 0 spare) e2) .1;
+          agree = same (ltb 0 (t .a)) (ltb 0 (t .resource)) e3;
+          sum = inside (t .c1 + t .a + t .c2) 1 (t .period) e4;
+        }
+
+module _ (bs : List ℕ) (n : ℕ) where
+  at-column : (f : Task → ℕ) (k : ℕ) → k < n → getD (column bs n f) k 0 ≡ f (taskOf (rowBytes bs k))
+  unfolding column
+  at-column f k l = getD-filled 64 0 (λ j. f (taskOf (rowBytes bs j))) n k 0 l
+
+  -- row k of the table is what its eleven bytes say
+  pub task-read : (m : ℕ) (npp : Bool) (k : ℕ) → k < n → taskAt (tableOf bs n m npp) k ≡ taskOf (rowBytes bs k)
+  unfolding tableOf
+  task-read m npp k l =
+      rw (at-column (λ t. t .period) k l, at-column (λ t. t .c1) k l, at-column (λ t. t .a) k l, at-column (λ t. t .c2) k l, at-column (λ t. t .resource) k l)
+
+  -- behind no bad row each row is good
+  rows-good : n ≤ firstBad bs n → (k : ℕ) → k < n → GoodTask (taskOf (rowBytes bs k))
+  unfolding firstBad rowNumber rowOf
+  rows-good h k l =
+      let e : ltb 0 (rowNumber bs k) ≡ false = first-no n (λ j. ltb 0 (rowNumber bs j)) k (omega arith) in
+      judged-good (taskOf (rowBytes bs k)) (spareOf (rowBytes bs k)) (omega (arith, ltb-false 0 (rowNumber bs k) e))
+
+rows-table : (bs : List ℕ) (m : ℕ) (npp : Bool) → GoodHeader bs → (2 ≤ m) × (m ≤ 16) → (b : Bool) → ltb (firstBad bs (taskCount bs)) (taskCount bs) ≡ b → (r : Reading) →
+    r ≡ cond b (refusal (rowNumber bs (firstBad bs (taskCount bs))) (firstBad bs (taskCount bs) + 1)) (accepted (tableOf bs (taskCount bs) m npp)) →
+    r .number ≡ 0 → GoodTable (r .table)
+unfolding firstBad tableOf
+rows-table bs m npp g p true e r q z =
+    let l = ltb-true (firstBad bs (taskCount bs)) (taskCount bs) e in
+    let y : ltb 0 (rowNumber bs (firstBad bs (taskCount bs))) ≡ true = first-yes (taskCount bs) (λ k. ltb 0 (rowNumber bs k)) l in
+    absurd (omega (arith, ltb-true 0 (rowNumber bs (firstBad bs (taskCount bs))) y, ap (λ (x : Reading). x .number) q))
+rows-table bs m npp g p false e r q z =
+    rw q
+    (record {
+      rows = g .rows;
+      processors = p;
+      tasks = λ k l. rw (task-read bs (taskCount bs) m npp k l) (rows-good bs (taskCount bs) (ltb-false (firstBad bs (taskCount bs)) (taskCount bs) e) k l);
+      ranks = refl;
+      ceilings = refl;
+    })
+
+-- what is read without refusal is a good table
+pub table-good : (bs : List ℕ) (r : Reading) → r ≡ readingOf bs → r .number ≡ 0 → GoodTable (r .table)
+unfolding readingOf rowsReading
+table-good bs r q z = go (ltb 0 (headerNumber bs)) refl q
+  where
+    go : (b : Bool) → ltb 0 (headerNumber bs) ≡ b → r ≡ cond b (refusal (headerNumber bs) 0) (rowsReading bs (taskCount bs) (processorCount bs) (eqb (protocolBit bs) 1)) → GoodTable (r .table)
+    go true e q = absurd (omega (arith, ltb-true 0 (headerNumber bs) e, ap (λ (x : Reading). x .number) q))
+    go false e q =
+        let g = header-good bs (omega (arith, ltb-false 0 (headerNumber bs) e)) in
+        rows-table bs (processorCount bs) (eqb (protocolBit bs) 1) g (g .processors) (ltb (firstBad bs (taskCount bs)) (taskCount bs)) refl r q z
