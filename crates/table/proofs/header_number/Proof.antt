@@ -1,7 +1,7 @@
 -- `table::header_number` meets its contract: each return has the tests that led there.
-use Prim.Native.Nat.{_+_, _*_}
-use mathlib.Core.Bool.{true, false}
-use mathlib.Core.Path.{_≡_}
+use Prim.Native.Nat.{ℕ, _+_, _*_}
+use mathlib.Core.Bool.{Bool}
+use mathlib.Core.Path.{_≡_, sym, _∙_, ap}
 use native.Mathlib.Omega.{arith}
 use borrow.Author.Needs.{needs}
 use borrow.Author.Tests.{lt-ltb, le-ltb, eq-eqb, ne-eqb}
@@ -10,6 +10,10 @@ use Rattle.table.specs.Row.{outside}
 use Rattle.table.specs.Table.{taskCount, processorCount, spareBits, headerNumber}
 use Rattle.table.proofs.header_number.Statement.{statement}
 use Rattle.table.proofs.header_number.Tie as tie
+
+-- what the test of a field says of the field's value
+test : (lo hi : ℕ) {x v : ℕ} {r b : Bool} → x ≡ v → r ≡ outside x lo hi → r ≡ b → outside v lo hi ≡ b
+test lo hi e f h = ap (λ (y : ℕ). outside y lo hi) (sym e) ∙ sym f ∙ h
 
 returns : tie.Need-returns
 unfolding headerNumber
@@ -26,7 +30,7 @@ unfolding headerNumber
 returns-2 c =
     let b = c .before .before .before in
     let bs = b .before .before .args .bytes .now in
-    let n : outside (taskCount bs) 1 64 ≡ true = cc in
+    let n = test 1 64 (c .before .before .field .ensures .0) (c .before .outside .ensures) (c .if2 .taken) in
     simp (le-ltb _ _ (b .if1 .left), n)
 
 field-requires-2 : tie.Need-field-requires-2
@@ -40,8 +44,9 @@ unfolding headerNumber
 returns-3 c =
     let b = c .before .before .before .before .before .before in
     let bs = b .before .before .args .bytes .now in
-    let n : outside (taskCount bs) 1 64 ≡ false = cc in
-    let m : outside (processorCount bs) 2 16 ≡ true = cc in
+    let d = c .before .before .before in
+    let n = test 1 64 (d .before .before .field .ensures .0) (d .before .outside .ensures) (d .if2 .left) in
+    let m = test 2 16 (c .before .before .field2 .ensures .0) (c .before .outside2 .ensures) (c .if3 .taken) in
     simp (le-ltb _ _ (b .if1 .left), n, m)
 
 field-requires-3 : tie.Need-field-requires-3
@@ -52,8 +57,9 @@ unfolding headerNumber
 returns-4 c =
     let b = c .before .before .before .before .before .before .before .before in
     let bs = b .before .before .args .bytes .now in
-    let n : outside (taskCount bs) 1 64 ≡ false = cc in
-    let m : outside (processorCount bs) 2 16 ≡ false = cc in
+    let d = c .before .before .before .before .before in
+    let n = test 1 64 (d .before .before .field .ensures .0) (d .before .outside .ensures) (d .if2 .left) in
+    let m = test 2 16 (c .before .before .before .before .field2 .ensures .0) (c .before .before .before .outside2 .ensures) (c .before .before .if3 .left) in
     simp (le-ltb _ _ (b .if1 .left), n, m, lt-ltb 0 (spareBits bs) (omega (arith, c .before .field3 .ensures .0)))
 
 cast-if5 : tie.Need-cast-if5
@@ -70,8 +76,9 @@ unfolding headerNumber
 returns-5 c =
     let b = c .before .before .before .before .before .before .before .before .before in
     let bs = b .before .before .args .bytes .now in
-    let n : outside (taskCount bs) 1 64 ≡ false = cc in
-    let m : outside (processorCount bs) 2 16 ≡ false = cc in
+    let d = c .before .before .before .before .before .before in
+    let n = test 1 64 (d .before .before .field .ensures .0) (d .before .outside .ensures) (d .if2 .left) in
+    let m = test 2 16 (c .before .before .before .before .before .field2 .ensures .0) (c .before .before .before .before .outside2 .ensures) (c .before .before .before .if3 .left) in
     simp (le-ltb _ _ (b .if1 .left), n, m, le-ltb 0 (spareBits bs) (omega arith), ne-eqb (length bs) (2 + 11 * taskCount bs) (λ e. omega arith))
 
 returns-6 : tie.Need-returns-6
@@ -79,8 +86,9 @@ unfolding headerNumber
 returns-6 c =
     let b = c .before .before .before .before .before .before .before .before .before in
     let bs = b .before .before .args .bytes .now in
-    let n : outside (taskCount bs) 1 64 ≡ false = cc in
-    let m : outside (processorCount bs) 2 16 ≡ false = cc in
+    let d = c .before .before .before .before .before .before in
+    let n = test 1 64 (d .before .before .field .ensures .0) (d .before .outside .ensures) (d .if2 .left) in
+    let m = test 2 16 (c .before .before .before .before .before .field2 .ensures .0) (c .before .before .before .before .outside2 .ensures) (c .before .before .before .if3 .left) in
     simp (le-ltb _ _ (b .if1 .left), n, m, le-ltb 0 (spareBits bs) (omega arith), eq-eqb (length bs) (2 + 11 * taskCount bs) (omega arith))
 
 pub header-number-spec : {M : Type 1} → statement M

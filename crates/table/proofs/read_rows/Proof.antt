@@ -46,19 +46,19 @@ abbrev μ-loop : tie.MeasureT-loop
 μ-loop bytes n m npp period₀ c1₀ a₀ c2₀ resource₀ i₀ period c1 a c2 resource i = n - i
 
 no-column-requires : tie.Need-no-column-requires Inv-loop μ-loop
-no-column-requires c κs = search needs
+no-column-requires c κs = tt
 
 no-column-requires-2 : tie.Need-no-column-requires-2 Inv-loop μ-loop
-no-column-requires-2 c κs = search needs
+no-column-requires-2 c κs = tt
 
 no-column-requires-3 : tie.Need-no-column-requires-3 Inv-loop μ-loop
-no-column-requires-3 c κs = search needs
+no-column-requires-3 c κs = tt
 
 no-column-requires-4 : tie.Need-no-column-requires-4 Inv-loop μ-loop
-no-column-requires-4 c κs = search needs
+no-column-requires-4 c κs = tt
 
 no-column-requires-5 : tie.Need-no-column-requires-5 Inv-loop μ-loop
-no-column-requires-5 c κs = search needs
+no-column-requires-5 c κs = tt
 
 loop-holds : tie.Need-loop-holds Inv-loop μ-loop
 loop-holds c =
@@ -75,22 +75,22 @@ loop-holds c =
     )
 
 row-at-requires : tie.Need-row-at-requires Inv-loop μ-loop
-row-at-requires c κs = search needs
+row-at-requires c κs = omega arith
 
 enum-known-row : tie.Need-enum-known-row Inv-loop μ-loop
 enum-known-row c = search needs
 
 number-of-requires : tie.Need-number-of-requires Inv-loop μ-loop
-number-of-requires c κs = search needs
+number-of-requires c κs = tt
 
 cast-refuse : tie.Need-cast-refuse Inv-loop μ-loop
-cast-refuse c = search needs
+cast-refuse c = omega arith
 
 add-refuse : tie.Need-add-refuse Inv-loop μ-loop
-add-refuse c = search needs
+add-refuse c = omega arith
 
 refuse-requires : tie.Need-refuse-requires Inv-loop μ-loop
-refuse-requires c κs = search needs
+refuse-requires c κs = tt
 
 returns : tie.Need-returns Inv-loop μ-loop
 unfolding rowNumber
@@ -104,40 +104,40 @@ returns c =
     c .refuse .ensures ∙ ap (λ (x : ℕ). refusal x (l .i + 1)) n ∙ sym (rows-refused bs (s .args .n) (s .args .m) (s .args .npp) (l .i) (omega arith) (l .inv .0) b)
 
 mul-period : tie.Need-mul-period Inv-loop μ-loop
-mul-period c = search needs
+mul-period c = omega arith
 
 array-write-period : tie.Need-array-write-period Inv-loop μ-loop
-array-write-period c = search needs
+array-write-period c = omega arith
 
 mul-c1 : tie.Need-mul-c1 Inv-loop μ-loop
-mul-c1 c = search needs
+mul-c1 c = omega arith
 
 array-write-c1 : tie.Need-array-write-c1 Inv-loop μ-loop
-array-write-c1 c = search needs
+array-write-c1 c = omega arith
 
 mul-a : tie.Need-mul-a Inv-loop μ-loop
-mul-a c = search needs
+mul-a c = omega arith
 
 array-write-a : tie.Need-array-write-a Inv-loop μ-loop
-array-write-a c = search needs
+array-write-a c = omega arith
 
 mul-c2 : tie.Need-mul-c2 Inv-loop μ-loop
-mul-c2 c = search needs
+mul-c2 c = omega arith
 
 array-write-c2 : tie.Need-array-write-c2 Inv-loop μ-loop
-array-write-c2 c = search needs
+array-write-c2 c = omega arith
 
 mul-resource : tie.Need-mul-resource Inv-loop μ-loop
-mul-resource c = search needs
+mul-resource c = omega arith
 
 array-write-resource : tie.Need-array-write-resource Inv-loop μ-loop
-array-write-resource c = search needs
+array-write-resource c = omega arith
 
 add-i : tie.Need-add-i Inv-loop μ-loop
-add-i c = search needs
+add-i c = omega arith
 
 loop-less : tie.Need-loop-less Inv-loop μ-loop
-loop-less c = search needs
+loop-less c = omega arith
 
 loop-again : tie.Need-loop-again Inv-loop μ-loop
 unfolding rowNumber
@@ -161,10 +161,10 @@ loop-again c =
     )
 
 ranks-requires : tie.Need-ranks-requires Inv-loop μ-loop
-ranks-requires c κs = search needs
+ranks-requires c κs = omega arith
 
 ceilings-requires : tie.Need-ceilings-requires Inv-loop μ-loop
-ceilings-requires c κs = search needs
+ceilings-requires c κs = omega arith
 
 returns-2 : tie.Need-returns-2 Inv-loop μ-loop
 unfolding tableOf
