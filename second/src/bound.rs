@@ -1,0 +1,97 @@
+//! The demand of a section or a stage, and the least t that equals it, found in two ways.
+
+/// One better-ranked task's part in a demand: its period, and what each release brings.
+#[derive(Clone, Debug)]
+pub struct Term {
+    pub period: u64,
+    pub length: u64,
+}
+
+/// `own` and the sum of "ceil(t / T_i) × A_i" over the terms.
+pub fn demand(own: u64, terms: &[Term], t: u64) -> u64 {
+    let others: u64 = terms
+        .iter()
+        .map(|term| t.div_ceil(term.period) * term.length)
+        .sum();
+    own + others
+}
+
+/// The longest limit up to which every t is tried.
+const QUICK: u64 = 2_000;
+
+/// "the least t ≥ 1 for which [the demand] equals t", none if it is above the limit.
+pub fn least(own: u64, terms: &[Term], limit: u64) -> Option<u64> {
+    if limit <= QUICK {
+        by_trying(own, terms, limit)
+    } else {
+        by_walking(own, terms, limit)
+    }
+}
+
+/// The first way, by the definition: t = 1, 2, 3, .. up to the limit.
+pub fn by_trying(own: u64, terms: &[Term], limit: u64) -> Option<u64> {
+    (1..=limit).find(|&t| demand(own, terms, t) == t)
+}
+
+/// The second way. From behind one multiple of a period up to and with the next multiple of any
+/// of them, the demand is one and the same number; that number is then the only t in there that
+/// can be equal to its demand.
+pub fn by_walking(own: u64, terms: &[Term], limit: u64) -> Option<u64> {
+    let mut low = 0;
+    while low < limit {
+        let high = next_multiple(terms, low, limit);
+        let same = demand(own, terms, high);
+        if low < same && same <= high {
+            return Some(same);
+        }
+        // The demand never falls as t grows: from here on it stays above every t allowed.
+        if same > limit {
+            return None;
+        }
+        low = high;
+    }
+    None
+}
+
+/// The first multiple of any period above `low`, or the limit if that comes first.
+fn next_multiple(terms: &[Term], low: u64, limit: u64) -> u64 {
+    terms
+        .iter()
+        .map(|term| (low / term.period + 1) * term.period)
+        .fold(limit, u64::min)
+}
+
+#[cfg(test)]
+mod tests {
+    use super::*;
+
+    fn terms(pairs: &[(u64, u64)]) -> Vec<Term> {
+        let term = |&(period, length)| Term { period, length };
+        pairs.iter().map(term).collect()
+    }
+
+    #[test]
+    fn a_release_on_the_last_tick_does_not_count() {
+        // At t = 10 a period of 10 has one release inside, not two.
+        assert_eq!(demand(5, &terms(&[(10, 2), (20, 3)]), 10), 10);
+        assert_eq!(demand(5, &terms(&[(10, 2), (20, 3)]), 11), 12);
+    }
+
+    #[test]
+    fn both_ways_find_a_late_least_t() {
+        // 1 + 9 is 10 at once; 7 + 9 is 16, then 25, 34, .. and only 7 + 7 × 9 is its own t.
+        let nine = terms(&[(10, 9)]);
+        for way in [by_trying, by_walking] {
+            assert_eq!(way(1, &nine, 100), Some(10));
+            assert_eq!(way(7, &nine, 70), Some(70));
+            assert_eq!(way(7, &nine, 69), None);
+        }
+    }
+
+    #[test]
+    fn a_full_processor_has_no_least_t() {
+        let full = terms(&[(1, 1)]);
+        assert_eq!(by_trying(1, &full, 5_000), None);
+        assert_eq!(by_walking(1, &full, 5_000), None);
+    }
+}

@@ -1,0 +1,34 @@
+//! The comparison of the product with this program: one file for each thing that is compared.
+//! A further one is a further line in COMPARISONS.
+
+mod list;
+mod reader;
+
+use crate::checks::hex;
+use crate::options::Options;
+
+/// Compares one thing; hands back lines that sum up, or what does not agree.
+type Comparison = fn(&Options) -> Result<Vec<String>, String>;
+
+const COMPARISONS: [Comparison; 2] = [reader::compare, list::compare];
+
+/// Makes every comparison, up to the first mismatch.
+pub fn all(options: &Options) -> Result<(), String> {
+    for comparison in COMPARISONS {
+        for line in comparison(options)? {
+            println!("{line}");
+        }
+    }
+    Ok(())
+}
+
+/// What is printed of an input on which the two do not agree.
+fn mismatch(what: &str, input: &[u8], second: &str, product: &str) -> String {
+    format!(
+        "mismatch: {what}\ninput ({} bytes) {}\nsecond program:\n{}\nproduct:\n{}",
+        input.len(),
+        hex(input),
+        second.trim_end(),
+        product.trim_end()
+    )
+}

@@ -1,0 +1,219 @@
+//! Blocking, weights, trials, and the plan, with refusal 11.
+
+use crate::answer::Refusal;
+use crate::bound::{least, Term};
+use crate::rank::Ranks;
+use crate::table::{Protocol, Table, Task, LAST_RESOURCE};
+
+/// Where a task's stages run, and its three bounds.
+#[derive(Clone, Copy, Debug, PartialEq, Eq, Default)]
+pub struct Place {
+    /// 0 while the task has no application processor yet.
+    pub processor: usize,
+    pub d1: u64,
+    pub s: u64,
+    pub d2: u64,
+}
+
+/// The processor of each resource, by number; 0 if unused. Number 0 is no resource.
+pub type Homes = [usize; LAST_RESOURCE + 1];
+
+#[derive(Clone, Debug, PartialEq, Eq)]
+pub struct Plan {
+    /// How many synchronization processors there are; they are 1 to `sync`.
+    pub sync: usize,
+    pub homes: Homes,
+    /// One for each row, in row order.
+    pub places: Vec<Place>,
+}
+
+/// "A trial that ends without a plan hands back the task and the mark."
+#[derive(Clone, Copy, Debug, PartialEq, Eq)]
+pub struct Failed {
+    pub row: usize,
+    pub mark: u32,
+}
+
+/// "The first [trial] that succeeds is the plan." Otherwise 11: "every trial failed".
+pub fn plan(table: &Table) -> Result<Plan, Refusal> {
+    let ranks = Ranks::of(table);
+    let mut last = Failed { row: 0, mark: 0 };
+    for sync in trials(table) {
+        match trial(table, &ranks, sync) {
+            Ok(plan) => return Ok(plan),
+            Err(failed) => last = failed,
+        }
+    }
+    // "row and mark of the last trial"
+    Err(Refusal {
+        number: 11,
+        names: last.row as u32,
+        mark: last.mark,
+    })
+}
+
+/// The counts of synchronization processors that are tried, in order.
+pub fn trials(table: &Table) -> std::ops::RangeInclusive<usize> {
+    match table.used_resources().len() {
+        // "If u is 0 there is one trial, with 0 synchronization processors."
+        0 => 0..=0,
+        // "1, 2, .. up to the smaller of m − 1 and u"
+        used => 1..=used.min(table.processors - 1),
+    }
+}
+
+pub fn trial(table: &Table, ranks: &Ranks, sync: usize) -> Result<Plan, Failed> {
+    // Step 1.
+    let homes = homes(table, sync);
+    let mut places = vec![Place::default(); table.tasks.len()];
+    // Step 2: "All S are worked out in rank order. The first missing one ends the trial, mark 1."
+    for row in ranks.rows_in_order() {
+        match section_bound(table, ranks, &homes, row) {
+            Some(bound) => places[row - 1].s = bound,
+            None => return Err(Failed { row, mark: 1 }),
+        }
+    }
+    // Step 3: "In rank order each task goes to the lowest-numbered application processor that it
+    // fits. The first that fits none ends the trial, mark 2."
+    for row in ranks.rows_in_order() {
+        let found = (sync + 1..=table.processors)
+            .find_map(|processor| fit(table, ranks, &places, row, processor));
+        match found {
+            Some(place) => places[row - 1] = place,
+            None => return Err(Failed { row, mark: 2 }),
+        }
+    }
+    Ok(Plan {
+        sync,
+        homes,
+        places,
+    })
+}
+
+/// "the sum of ceil(A × 1,000,000 / T) over its users"
+pub fn weight(table: &Table, resource: usize) -> u64 {
+    table
+        .users(resource)
+        .map(|task| (task.a * 1_000_000).div_ceil(task.period))
+        .sum()
+}
+
+/// "Heaviest first (ties: lower number), each goes to the least loaded of 1 to s (ties: lower
+/// number)."
+pub fn homes(table: &Table, sync: usize) -> Homes {
+    let mut left = table.used_resources();
+    let mut homes = [0; LAST_RESOURCE + 1];
+    let mut load = vec![0; sync + 1];
+    left.sort_by_key(|&resource| (std::cmp::Reverse(weight(table, resource)), resource));
+    for resource in left {
+        let home = (1..=sync).min_by_key(|&processor| (load[processor], processor));
+        let home = home.expect("a used resource means a synchronization processor");
+        homes[resource] = home;
+        load[home] += weight(table, resource);
+    }
+    homes
+}
+
+/// The tasks other than `row`'s with a section on the processor where `row`'s section runs.
+fn sharing<'a>(table: &'a Table, homes: &'a Homes, row: usize) -> impl Iterator<Item = &'a Task> {
+    let here = homes[table.task(row).resource];
+    table
+        .tasks
+        .iter()
+        .filter(move |o| o.row != row && o.has_section() && homes[o.resource] == here)
+}
+
+/// B of the task in `row`, "0 if there is none".
+pub fn blocking(table: &Table, ranks: &Ranks, homes: &Homes, row: usize) -> u64 {
+    let own = ranks.rank(row);
+    sharing(table, homes, row)
+        // "of a lower-ranked task on the same processor": a larger rank number is a lower rank.
+        .filter(|o| ranks.rank(o.row) > own)
+        .filter(|o| match table.protocol {
+            // "whose resource has a ceiling at or above k's rank"
+            Protocol::Pcp => ranks.ceiling(o.resource) <= own,
+            // "any lower-ranked task there"
+            Protocol::Npp => true,
+        })
+        .map(|o| o.a)
+        .max()
+        .unwrap_or(0)
+}
+
+/// What S of the task in `row` is the least t of: A + B, and the terms of "better-ranked tasks i
+/// with a section on that processor".
+pub fn section_demand(table: &Table, ranks: &Ranks, homes: &Homes, row: usize) -> (u64, Vec<Term>) {
+    let own = table.task(row).a + blocking(table, ranks, homes, row);
+    let terms = sharing(table, homes, row)
+        .filter(|o| ranks.rank(o.row) < ranks.rank(row))
+        .map(|o| Term {
+            period: o.period,
+            length: o.a,
+        })
+        .collect();
+    (own, terms)
+}
+
+/// S of the task in `row`; "It must be at most T. S is 0 without a section."
+fn section_bound(table: &Table, ranks: &Ranks, homes: &Homes, row: usize) -> Option<u64> {
+    let task = table.task(row);
+    if !task.has_section() {
+        return Some(0);
+    }
+    let (own, terms) = section_demand(table, ranks, homes, row);
+    least(own, &terms, task.period)
+}
+
+/// "for each better-ranked task i on the same application processor the term ceil(t / T_i) ×
+/// (C1_i + C2_i)"
+fn stage_terms(
+    table: &Table,
+    ranks: &Ranks,
+    places: &[Place],
+    row: usize,
+    processor: usize,
+) -> Vec<Term> {
+    table
+        .tasks
+        .iter()
+        .filter(|o| places[o.row - 1].processor == processor)
+        .filter(|o| ranks.rank(o.row) < ranks.rank(row))
+        .map(|o| Term {
+            period: o.period,
+            length: o.c1 + o.c2,
+        })
+        .collect()
+}
+
+/// D1 or D2: "the same with C1 (or C2) in place of A, no B"; "A stage of table length 0 has bound
+/// 0."
+fn stage_bound(length: u64, terms: &[Term], period: u64) -> Option<u64> {
+    if length == 0 {
+        return Some(0);
+    }
+    least(length, terms, period)
+}
+
+/// "A task fits a processor when D1, D2 exist with D1 + S + D2 ≤ T."
+fn fit(
+    table: &Table,
+    ranks: &Ranks,
+    places: &[Place],
+    row: usize,
+    processor: usize,
+) -> Option<Place> {
+    let task = table.task(row);
+    let terms = stage_terms(table, ranks, places, row, processor);
+    let d1 = stage_bound(task.c1, &terms, task.period)?;
+    let d2 = stage_bound(task.c2, &terms, task.period)?;
+    let s = places[row - 1].s;
+    if d1 + s + d2 > task.period {
+        return None;
+    }
+    Some(Place {
+        processor,
+        d1,
+        s,
+        d2,
+    })
+}
