@@ -6,20 +6,22 @@ mod reader;
 
 use crate::checks::hex;
 use crate::options::Options;
+use crate::product::Product;
 
 /// Compares one thing; hands back lines that sum up, or what does not agree.
-type Comparison = fn(&Options) -> Result<Vec<String>, String>;
+type Comparison = fn(&Options, &mut Product) -> Result<Vec<String>, String>;
 
 const COMPARISONS: [Comparison; 2] = [reader::compare, list::compare];
 
 /// Makes every comparison, up to the first mismatch.
-pub fn all(options: &Options) -> Result<(), String> {
+pub fn all(options: &Options, mut product: Product) -> Result<(), String> {
     for comparison in COMPARISONS {
-        for line in comparison(options)? {
+        for line in comparison(options, &mut product)? {
             println!("{line}");
         }
     }
-    Ok(())
+    let ended = product.finish();
+    ended.map_err(|why| mismatch("after the last request", &[], "the end", &why))
 }
 
 /// What is printed of an input on which the two do not agree.

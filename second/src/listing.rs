@@ -47,15 +47,15 @@ fn plan_lines(bytes: &[u8]) -> Result<Vec<String>, Refusal> {
     Ok(lines)
 }
 
-/// table: n, m, protocol; resource: number, ceiling, used ones only; task: row, T, C1, A, C2,
-/// resource, rank.
+/// table: n, m, protocol as its bit stands in the table; resource: number, ceiling, used ones only;
+/// task: row, T, C1, A, C2, resource, rank.
 fn table_lines(bytes: &[u8]) -> Result<Vec<String>, Refusal> {
     let table = read(bytes)?;
     let ranks = Ranks::of(&table);
     let (n, m) = (table.tasks.len(), table.processors);
     let protocol = match table.protocol {
-        Protocol::Pcp => "pcp",
-        Protocol::Npp => "npp",
+        Protocol::Pcp => 0,
+        Protocol::Npp => 1,
     };
     let mut lines = vec![format!("table {n} {m} {protocol}")];
     for resource in table.used_resources() {

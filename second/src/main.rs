@@ -11,10 +11,12 @@
 //!         from F on, the worst responses beside the bounds, and the counts, or the refused line.
 //!     second paper [--seed N]
 //!         Holds the paper's own figures and checks this program against itself.
-//!     second compare [--seed N] [--inputs N] [--list PATH]
+//!     second compare --product COMMAND [--list COMMAND] [--seed N] [--inputs N]
 //!         The same, and then compares the product with this program: its reader on N inputs or
-//!         more, and the program at PATH, if one is given, on some of them. Has to be built with
-//!         the feature `product`; see build.rs for where the product's library is looked for.
+//!         more, and its listing program, if one is given, on some 400. A COMMAND is a path, or
+//!         words separated by spaces. Both programs are x86-64 code, so after second/build it is
+//!         --product "tools/run target/second/product" --list "tools/run target/bin/list"
+//!         in the repository's root.
 //!
 //! A seed makes the random inputs the same again; without one it comes from the clock. The exit
 //! code is 0, or 1 if a figure, a check or a comparison fails, or 2 if the call makes no sense.
@@ -23,9 +25,7 @@ mod answer;
 mod bits;
 mod bound;
 mod checks;
-#[cfg(feature = "product")]
 mod compare;
-#[cfg(feature = "product")]
 mod inputs;
 mod lanes;
 mod listing;
@@ -33,8 +33,8 @@ mod machine;
 mod options;
 mod paper;
 mod plan;
-#[cfg(feature = "product")]
 mod product;
+mod program;
 mod random;
 mod rank;
 mod raw;
@@ -43,6 +43,7 @@ mod sheet;
 mod table;
 
 use options::Options;
+use product::Product;
 use std::io::{self, Read, Write};
 use std::process::ExitCode;
 
@@ -50,7 +51,7 @@ const USAGE: &str = "usage: second list < TABLE
        second table < TABLE
        second run TABLE ARRIVALS F W
        second paper [--seed N]
-       second compare [--seed N] [--inputs N] [--list PATH]";
+       second compare --product COMMAND [--list COMMAND] [--seed N] [--inputs N]";
 
 /// Why a command ended without success.
 enum Trouble {
@@ -86,7 +87,7 @@ fn command(words: &[&str]) -> Result<(), Trouble> {
             hold(&options)
         }
         ["compare", rest @ ..] => {
-            let known = ["--seed", "--inputs", "--list"];
+            let known = ["--product", "--list", "--seed", "--inputs"];
             let options = Options::read(rest, &known).ok_or_else(usage)?;
             compare_product(&options)
         }
@@ -137,18 +138,17 @@ fn hold(options: &Options) -> Result<(), Trouble> {
     Ok(())
 }
 
-#[cfg(feature = "product")]
 fn compare_product(options: &Options) -> Result<(), Trouble> {
+    let Some(command) = &options.product else {
+        let missing = "second compare: --product COMMAND is missing; second/build makes \
+                       target/second/product, and tools/run runs it";
+        return Err(Trouble::Call(missing.to_string()));
+    };
+    let product = Product::start(command);
+    let product = product.map_err(|why| Trouble::Call(format!("{command}: {why}")))?;
     hold(options)?;
-    compare::all(options).map_err(|mismatch| {
+    compare::all(options, product).map_err(|mismatch| {
         let seed = options.seed;
         Trouble::Fails(format!("seed {seed}\n{mismatch}"))
     })
-}
-
-#[cfg(not(feature = "product"))]
-fn compare_product(_: &Options) -> Result<(), Trouble> {
-    let missing = "second compare needs the product: build with `--features product`, with \
-                   libkieferntuch.a in ../target/staticlib or in the folder KIEFERNTUCH_LIB";
-    Err(Trouble::Call(missing.to_string()))
 }

@@ -126,7 +126,7 @@ fn p_listing() -> Result<(), String> {
 }
 
 fn p_contents() -> Result<(), String> {
-    let wanted = "table 3 3 pcp\n\
+    let wanted = "table 3 3 0\n\
                   resource 1 1\n\
                   resource 2 3\n\
                   task 1 10 1 2 1 1 1\n\
@@ -260,7 +260,7 @@ fn empty_and_long() -> Result<(), String> {
     same(contents(&[]), "refused 1 0 0\n".to_string())?;
     let mut long = raw::table(16, NPP, &[(9, 1, 1, 1, 16); 64]).bytes();
     same(long.len(), 706)?;
-    same(contents(&long).starts_with("table 64 16 npp\n"), true)?;
+    same(contents(&long).starts_with("table 64 16 1\n"), true)?;
     long.extend([0; 500]);
     same(list(&long), "refused 5 0 0\n".to_string())?;
     long[1] |= 1;

@@ -42,7 +42,6 @@ impl Random {
         list[self.within(0, list.len() as u64 - 1) as usize]
     }
 
-    #[cfg(feature = "product")]
     pub fn bytes(&mut self, count: usize) -> Vec<u8> {
         (0..count).map(|_| self.number() as u8).collect()
     }
@@ -105,7 +104,6 @@ pub fn good_row(random: &mut Random, manner: Manner) -> RawRow {
 }
 
 /// A good table of any size and manner, up to 64 rows and 16 processors.
-#[cfg(feature = "product")]
 pub fn any_good_table(random: &mut Random) -> RawTable {
     let largest = random.pick(&[1, 4, 16, 64]);
     let n = random.within(1, largest);
@@ -113,7 +111,6 @@ pub fn any_good_table(random: &mut Random) -> RawTable {
 }
 
 /// A good table of `n` rows, in any manner.
-#[cfg(feature = "product")]
 pub fn good_table_of(random: &mut Random, n: u64) -> RawTable {
     let m = random.within(2, 16);
     let manner = Manner {

@@ -4,10 +4,9 @@ use super::mismatch;
 use crate::answer::Refusal;
 use crate::inputs::{SETS, STREAMS};
 use crate::options::Options;
-use crate::product;
+use crate::product::{Product, BATCH};
 use crate::random::Random;
 use crate::table;
-use std::ptr;
 
 /// How many inputs agreed, and how many of them were good tables.
 #[derive(Clone, Copy, Default)]
@@ -27,16 +26,15 @@ impl Tally {
     }
 }
 
-pub fn compare(options: &Options) -> Result<Vec<String>, String> {
-    nothing_lent()?;
+pub fn compare(options: &Options, product: &mut Product) -> Result<Vec<String>, String> {
+    product.ask_to_read_null();
+    compare_one(product, "nothing, lent by a null pointer", &[])?;
     let mut lines = Vec::new();
     let mut total = Tally::default();
     for set in SETS {
         let mut random = Random::new(options.seed, set.name);
-        let mut tally = Tally::default();
-        for input in (set.make)(&mut random) {
-            compare_one(set.name, &input, &mut tally)?;
-        }
+        let inputs = (set.make)(&mut random).into_iter();
+        let tally = compare_all(product, set.name, inputs)?;
         lines.push(tally.line(set.name));
         total.add(tally);
     }
@@ -47,10 +45,9 @@ pub fn compare(options: &Options) -> Result<Vec<String>, String> {
         .max(2 * total.inputs);
     for stream in STREAMS {
         let mut random = Random::new(options.seed, stream.name);
-        let mut tally = Tally::default();
-        for _ in 0..(left * stream.share).div_ceil(100) {
-            compare_one(stream.name, &(stream.make)(&mut random), &mut tally)?;
-        }
+        let count = (left * stream.share).div_ceil(100);
+        let inputs = (0..count).map(|_| (stream.make)(&mut random));
+        let tally = compare_all(product, stream.name, inputs)?;
         lines.push(tally.line(stream.name));
         total.add(tally);
     }
@@ -62,34 +59,37 @@ pub fn compare(options: &Options) -> Result<Vec<String>, String> {
     Ok(lines)
 }
 
-fn compare_one(name: &str, input: &[u8], tally: &mut Tally) -> Result<(), String> {
-    let second = table::read(input).map(|_| ());
-    let product = product::read(input);
-    if second != product {
-        return Err(mismatch(name, input, &words(second), &words(product)));
-    }
-    tally.inputs += 1;
-    if second.is_ok() {
-        tally.good += 1;
-    }
-    Ok(())
-}
-
-/// With length 0 the pointer may be anything.
-fn nothing_lent() -> Result<(), String> {
-    let second = table::read(&[]).map(|_| ());
-    for pointer in [
-        ptr::null(),
-        ptr::without_provenance(1),
-        [0x06, 0x30].as_ptr(),
-    ] {
-        let product = product::read_nothing(pointer);
-        if second != product {
-            let name = format!("nothing, at {pointer:?}");
-            return Err(mismatch(&name, &[], &words(second), &words(product)));
+/// In batches, up to the first mismatch.
+fn compare_all(
+    product: &mut Product,
+    name: &str,
+    mut inputs: impl Iterator<Item = Vec<u8>>,
+) -> Result<Tally, String> {
+    let mut tally = Tally::default();
+    loop {
+        let batch: Vec<Vec<u8>> = inputs.by_ref().take(BATCH).collect();
+        if batch.is_empty() {
+            return Ok(tally);
+        }
+        product.ask_to_read(&batch);
+        for input in &batch {
+            tally.add(compare_one(product, name, input)?);
         }
     }
-    Ok(())
+}
+
+/// The product has been asked about the input, and its answer comes next.
+fn compare_one(product: &mut Product, name: &str, input: &[u8]) -> Result<Tally, String> {
+    let second = table::read(input).map(|_| ());
+    let told = |product: &str| mismatch(name, input, &words(second), product);
+    let answer = product.answer().map_err(|why| told(&why))?;
+    if second != answer {
+        return Err(told(&words(answer)));
+    }
+    Ok(Tally {
+        inputs: 1,
+        good: usize::from(second.is_ok()),
+    })
 }
 
 fn words(answer: Result<(), Refusal>) -> String {
