@@ -9,7 +9,7 @@ use native.Mathlib.Numerals.{add-one}
 use native.Mathlib.Nat.{sub-zero}
 use lib.ListN.{length, getD, set, replicate, length-append, length-replicate, List·getD-append, getD-replicate, List·getD-eq-default}
 use lib.Seq.{set-at, getD-at, getD-append-add}
-use Rattle.lists.specs.Tab.{tab, blank, filled}
+use Rattle.lists.specs.Tab.{tab, joined, blank, filled}
 
 pub length-tab : {A : Type 0} (n : ℕ) (f : ℕ → A) → length (tab n f) ≡ n
 unfolding tab
@@ -59,3 +59,8 @@ module _ {A : Type 0} (size : ℕ) (z : A) (f : ℕ → A) where
   pub getD-filled : (n k : ℕ) (d : A) → k < n → getD (filled size z n f) k d ≡ f k
   unfolding filled
   getD-filled n k d h = List·getD-append (tab n f) (replicate (size - n) z) d k (omega (arith, length-tab n f)) ∙ getD-tab n f k d h
+
+-- one list more behind the others
+pub joined-more : {A : Type 0} (n : ℕ) (f : ℕ → List A) → joined (n + 1) f ≡ joined n f ++ f n
+unfolding joined
+joined-more n f = rw add-one

@@ -7,7 +7,7 @@ use borrow.Author.Needs.{needs}
 use borrow.Author.Tests.{lt-ltb, le-ltb, eq-eqb, ne-eqb}
 use lib.ListN.{length}
 use Rattle.table.specs.Row.{outside}
-use Rattle.table.specs.Table.{taskCount, processorCount, spareBits, headerNumber}
+use Rattle.table.specs.Table.{taskCount, spareBits, headerNumber}
 use Rattle.table.proofs.header_number.Statement.{statement}
 use Rattle.table.proofs.header_number.Tie as tie
 

@@ -1,0 +1,35 @@
+-- Laws of stores and of what stands behind a place.
+use Prim.Native.Nat.{ℕ, zero, suc, _+_, _-_, _≤_, _<_}
+use mathlib.Core.Path.{_≡_, refl, sym, _∙_, ap}
+use mathlib.Core.List.{List, [], _∷_, _++_}
+use native.Mathlib.Omega.{arith}
+use native.Mathlib.Numerals.{add-one}
+use lib.ListN.{length, getD, take, drop, set, length-set, length-drop}
+use lib.Seq.{sets, take-all, take-suc, length-take-le, drop-cons, getD-set-same, drop-set-lt}
+
+module _ {A : Type 0} where
+  -- stores one run behind the other are one run
+  pub sets-append : (l : List A) (i : ℕ) (u v : List A) → sets (sets l i u) (i + length u) v ≡ sets l i (u ++ v)
+  sets-append l i [] v =
+      let e : i + 0 ≡ i = omega arith in
+      ap (λ (k : ℕ). sets l k v) e
+  sets-append l i (a ∷ u) v =
+      let e : i + suc (length u) ≡ suc i + length u = omega arith in
+      ap (λ (k : ℕ). sets (sets (set l i a) (suc i) u) k v) e ∙ sets-append (set l i a) (suc i) u v
+
+  -- one more store of a run that is copied
+  pub sets-more : (l : List A) (at : ℕ) (s : List A) (i : ℕ) (d : A) → i < length s → set (sets l at (take i s)) (at + i) (getD s i d) ≡ sets l at (take (i + 1) s)
+  sets-more l at s i d h =
+      let n : length (take i s) ≡ i = length-take-le i s (omega arith) in
+      let e = sets-append l at (take i s) (getD s i d ∷ []) in
+      rw (add-one, take-suc s i d h, sym e, n)
+
+  -- what stands from the place of a store on
+  pub drop-set : (l : List A) (i : ℕ) (a : A) → i < length l → drop i (set l i a) ≡ a ∷ drop (suc i) l
+  drop-set l i a h =
+      let k : i < length (set l i a) = rw (length-set l i a) h in
+      drop-cons (set l i a) i a k ∙ rw (getD-set-same l i a a h, drop-set-lt (suc i) l i a (omega arith))
+
+  -- all that stands from a place on
+  pub take-rest : (l : List A) (i n : ℕ) → length l ≡ n → take (n - i) (drop i l) ≡ drop i l
+  take-rest l i n h = take-all (n - i) (drop i l) (omega (arith, length-drop i l))
