@@ -15,7 +15,7 @@ pub struct Set {
     pub make: fn(&mut Random) -> Vec<Vec<u8>>,
 }
 
-pub const SETS: [Set; 8] = [
+pub const SETS: [Set; 9] = [
     Set {
         name: "headers at their boundaries",
         make: headers,
@@ -31,6 +31,10 @@ pub const SETS: [Set; 8] = [
     Set {
         name: "spare bits, one at a time",
         make: spare_bits,
+    },
+    Set {
+        name: "tables with two bad rows",
+        make: two_bad_rows,
     },
     Set {
         name: "prefixes of good tables",
@@ -167,6 +171,50 @@ fn splits(sum: u64) -> Vec<(u64, u64, u64)> {
     ];
     let fits = |&(c1, a, c2): &(u64, u64, u64)| c1.max(a).max(c2) <= WIDEST;
     all.into_iter().filter(fits).collect()
+}
+
+/// One row for each of refusals 6 to 9, bad in that way alone.
+const BAD_ROWS: [RawRow; 4] = [
+    bad_row(0, 1, 1, 0),
+    bad_row(9, 1, 17, 0),
+    bad_row(9, 0, 3, 0),
+    bad_row(9, 1, 3, 9),
+];
+
+const fn bad_row(t: u64, a: u64, resource: u64, c2: u64) -> RawRow {
+    RawRow {
+        t,
+        c1: 1,
+        a,
+        c2,
+        resource,
+        spare: 0,
+    }
+}
+
+/// Each pair of refusals 6 to 9, in any two rows of small tables and some rows of the largest.
+fn two_bad_rows(random: &mut Random) -> Vec<Vec<u8>> {
+    let places: [(u64, usize, usize); 9] = [
+        (2, 0, 1),
+        (3, 0, 1),
+        (3, 0, 2),
+        (3, 1, 2),
+        (5, 1, 3),
+        (64, 0, 1),
+        (64, 0, 63),
+        (64, 31, 32),
+        (64, 62, 63),
+    ];
+    let mut all = Vec::new();
+    for (n, first, second) in places {
+        for (one, other) in BAD_ROWS.iter().flat_map(|one| BAD_ROWS.map(|o| (*one, o))) {
+            let mut table = good_table_of(random, n);
+            table.rows[first] = one;
+            table.rows[second] = other;
+            all.push(table.bytes());
+        }
+    }
+    all
 }
 
 fn lone_rows(random: &mut Random) -> Vec<Vec<u8>> {
@@ -353,6 +401,22 @@ mod tests {
         for _ in 0..2_000 {
             let table = any_good_table(&mut random);
             assert!(read(&table.bytes()).is_ok(), "{table:?}");
+        }
+    }
+
+    /// Row by row, the number it is there for.
+    #[test]
+    fn bad_rows_are_bad_in_one_way() {
+        for (row, number) in BAD_ROWS.into_iter().zip(6..) {
+            let table = RawTable {
+                n: 1,
+                m: 2,
+                protocol: 0,
+                spare: 0,
+                rows: vec![row],
+            };
+            let refusal = read(&table.bytes()).expect_err("a bad row");
+            assert_eq!((refusal.number, refusal.names), (number, 1));
         }
     }
 

@@ -40,8 +40,7 @@ fn compare_all<'a>(command: &str, inputs: impl Iterator<Item = &'a Vec<u8>>) -> 
     for input in inputs {
         let second = contents(input);
         let output = output_of(command, input).map_err(|why| format!("{command}: {why}"))?;
-        // A signal ends a program without an exit code.
-        if output.status.code().is_none() || output.stdout != second.as_bytes() {
+        if !output.status.success() || output.stdout != second.as_bytes() {
             return Err(mismatch("list", input, &second, &all_of(&output)));
         }
     }

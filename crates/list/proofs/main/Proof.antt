@@ -1,4 +1,4 @@
--- `list::main` meets its contract.
+-- `list::main` meets its contract. What is written out is as much of the buffer as the listing filled.
 use mathlib.Core.Path.{sym}
 use borrow.Author.Needs.{needs}
 use lib.Seq.{length-take-le}

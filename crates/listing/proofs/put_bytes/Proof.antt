@@ -1,4 +1,4 @@
--- `listing::put_bytes` meets its contract.
+-- `listing::put_bytes` meets its contract. The loop's invariant: the first i bytes are stored.
 use Prim.Native.Nat.{ℕ, _-_, _≤_}
 use mathlib.Core.List.{List}
 use mathlib.Core.Path.{_≡_, _∙_, ap}

@@ -1,4 +1,4 @@
--- `listing::put_number` meets its contract.
+-- `listing::put_number` meets its contract. The digits stand at the end of ten places, and those are written.
 use Prim.Native.Nat.{_-_, _≤_}
 use mathlib.Core.Path.{_≡_, _∙_, ap}
 use native.Mathlib.Omega.{arith}

@@ -1,4 +1,4 @@
--- `listing::put_numbers` meets its contract.
+-- `listing::put_numbers` meets its contract. The loop's invariant: the first i numbers are written, in at most 11 bytes each.
 use Prim.Native.Nat.{_+_, _-_, _*_, _≤_}
 use mathlib.Core.List.{[], _∷_, _++_}
 use mathlib.Core.Path.{_≡_}

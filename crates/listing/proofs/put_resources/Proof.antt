@@ -1,4 +1,4 @@
--- `listing::put_resources` meets its contract.
+-- `listing::put_resources` meets its contract. The loop's invariant: the lines below r are written, in at most 31 bytes each.
 use Prim.Native.Nat.{_+_, _-_, _*_, _≤_}
 use mathlib.Core.Path.{_≡_}
 use native.Mathlib.Omega.{arith}

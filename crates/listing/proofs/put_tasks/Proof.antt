@@ -1,4 +1,4 @@
--- `listing::put_tasks` meets its contract.
+-- `listing::put_tasks` meets its contract. The loop's invariant: the lines of the first k rows are written, in at most 82 bytes each.
 use Prim.Native.Nat.{_+_, _-_, _*_, _≤_}
 use mathlib.Core.Path.{_≡_}
 use native.Mathlib.Omega.{arith}

@@ -1,4 +1,4 @@
--- `listing::spell` meets its contract.
+-- `listing::spell` meets its contract. The loop's invariant: the digits of `rest` in front of those that are stored are the digits of x, and `rest` has at most as many digits as there is room.
 use Prim.Native.Nat.{suc, _-_, _^_, _≤_, _<_}
 use mathlib.Core.List.{[]}
 use mathlib.Core.Path.{_≡_, sym, _∙_}

@@ -1,4 +1,4 @@
--- `listing::write_listing` meets its contract.
+-- `listing::write_listing` meets its contract. Behind the test of the number, the table is good, and its three parts are written one behind the other.
 use mathlib.Core.List.{_++_}
 use mathlib.Core.Path.{sym}
 use native.Mathlib.Omega.{arith}

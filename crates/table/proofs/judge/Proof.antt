@@ -1,4 +1,4 @@
--- `table::judge` meets its contract.
+-- `table::judge` meets its contract. Each return has the tests that led there.
 use mathlib.Core.Bool.{xor}
 use mathlib.Core.Logic.{⊎-elim}
 use mathlib.Core.Path.{sym, _∙_}

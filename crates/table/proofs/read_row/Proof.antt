@@ -1,4 +1,4 @@
--- `table::read_row` meets its contract.
+-- `table::read_row` meets its contract. The fields are those of the definition, and so is the judgement.
 use borrow.Author.Needs.{needs}
 use Rattle.table.specs.Row.{rowOf}
 use Rattle.table.proofs.read_row.Statement.{statement}

@@ -1,4 +1,4 @@
--- `table::read_rows` meets its contract.
+-- `table::read_rows` meets its contract. The loop's invariant: the first i rows are good, and the columns hold them.
 use Prim.Native.Nat.{ℕ, _+_, _-_, _≤_, _<_}
 use mathlib.Core.List.{[], _∷_, List}
 use mathlib.Core.Logic.{⊎-elim}

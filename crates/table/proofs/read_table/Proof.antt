@@ -1,4 +1,4 @@
--- `table::read_table` meets its contract.
+-- `table::read_table` meets its contract. Behind the header's tests, the header is good.
 use Prim.Native.Nat.{ℕ}
 use mathlib.Core.Path.{_∙_, ap}
 use native.Mathlib.Omega.{arith}
