@@ -1,4 +1,4 @@
-// Definitions over lists and numbers that every layer uses, with their laws (specs/ and proofs/), and two functions as small.
+// Definitions over lists and numbers that every layer uses, with their laws (specs/ and proofs/), and the blank arrays that columns are filled from.
 ghost use mathlib.Core.Path.{_≡_};
 ghost use mathlib.Core.Bool.{cond};
 ghost use Prim.Native.Nat.{_≤_};
@@ -9,6 +9,13 @@ pub fn no_column() -> [u32; 64]
     ensures { λ r. ⌜ r ≡ blank 64 0 ⌝ }
 {
     [0u32; 64]
+}
+
+// 17 places, one for each resource at its number, with 0 at each.
+pub fn no_ceilings() -> [u32; 17]
+    ensures { λ r. ⌜ r ≡ blank 17 0 ⌝ }
+{
+    [0u32; 17]
 }
 
 // A flag as a number.

@@ -11,7 +11,7 @@ use Rattle.lists.specs.Count.{count}
 use Rattle.rank.specs.Rank.{rankOf, ranksOf}
 use Rattle.rank.specs.Ceiling.{ceilingOf, ceilingsOf}
 use Rattle.table.specs.Row.{outside, judged, rowOf, numberOf}
-use Rattle.table.specs.Table.{headerNumber, rowNumber, firstBad, column, tableOf, refusal, rowsReading, readingOf}
+use Rattle.table.specs.Table.{headerNumber, rowNumber, firstBad, column, ranked, tableOf, refusal, rowsReading, readingOf}
 
 -- case P, as the paper has it in hex
 caseP : List ℕ
@@ -46,5 +46,5 @@ cases :
     × (readingOf longest .number ≡ 0)
     × (readingOf tooLong ≡ refusal 6 1)
     × (readingOf [] ≡ refusal 1 0)
-unfolding caseP longest tooLong readingOf headerNumber rowsReading firstBad first rowNumber rowOf judged outside numberOf bitsValue xor tableOf column filled tab ranksOf rankOf count ceilingsOf ceilingOf
+unfolding caseP longest tooLong readingOf headerNumber rowsReading firstBad first rowNumber rowOf judged outside numberOf bitsValue xor tableOf ranked column filled tab ranksOf rankOf count ceilingsOf ceilingOf
 cases = (refl, refl, refl, refl, refl, refl, refl, refl, refl, refl, refl, refl, refl, refl)

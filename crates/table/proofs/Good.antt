@@ -11,8 +11,8 @@ use Rattle.lists.proofs.Tab.{getD-filled}
 use Rattle.lists.proofs.First.{first-no, first-yes}
 use Rattle.rank.proofs.Order.{ranks-lt}
 use Rattle.table.specs.Row.{outside, taskOf, spareOf, judged, rowOf, numberOf}
-use Rattle.table.specs.Table.{GoodHeader, taskCount, processorCount, protocolBit, headerNumber, rowBytes, rowNumber, firstBad, column, tableOf, refusal, accepted, rowsReading, readingOf}
-use Rattle.table.specs.Good.{GoodTask, taskAt, GoodTable}
+use Rattle.table.specs.Table.{taskCount, processorCount, protocolBit, headerNumber, rowBytes, rowNumber, firstBad, column, ranked, tableOf, refusal, accepted, rowsReading, readingOf}
+use Rattle.table.specs.Good.{GoodHeader, GoodTask, taskAt, GoodTable}
 use Rattle.table.specs.declared.Task.{Task}
 use Rattle.table.specs.declared.Table.{Table}
 use Rattle.table.specs.declared.Reading.{Reading}
@@ -58,7 +58,7 @@ module _ (bs : List ℕ) (n : ℕ) where
 
   -- row k of the table is what its eleven bytes say
   pub task-read : (m : ℕ) (npp : Bool) (k : ℕ) → k < n → taskAt (tableOf bs n m npp) k ≡ taskOf (rowBytes bs k)
-  unfolding tableOf
+  unfolding tableOf ranked
   task-read m npp k l =
       rw (at-column (λ t. t .period) k l, at-column (λ t. t .c1) k l, at-column (λ t. t .a) k l, at-column (λ t. t .c2) k l, at-column (λ t. t .resource) k l)
 
@@ -72,7 +72,7 @@ module _ (bs : List ℕ) (n : ℕ) where
 rows-table : (bs : List ℕ) (m : ℕ) (npp : Bool) → GoodHeader bs → (2 ≤ m) × (m ≤ 16) → (b : Bool) → ltb (firstBad bs (taskCount bs)) (taskCount bs) ≡ b → (r : Reading) →
     r ≡ cond b (refusal (rowNumber bs (firstBad bs (taskCount bs))) (firstBad bs (taskCount bs) + 1)) (accepted (tableOf bs (taskCount bs) m npp)) →
     r .number ≡ 0 → GoodTable (r .table)
-unfolding firstBad tableOf
+unfolding firstBad tableOf ranked
 rows-table bs m npp g p true e r q z =
     let l = ltb-true (firstBad bs (taskCount bs)) (taskCount bs) e in
     let y : ltb 0 (rowNumber bs (firstBad bs (taskCount bs))) ≡ true = first-yes (taskCount bs) (λ k. ltb 0 (rowNumber bs k)) l in

@@ -11,7 +11,8 @@ use Rattle.lists.specs.Tab.{blank}
 use Rattle.lists.proofs.Tab.{filled-none, filled-more}
 use Rattle.lists.proofs.First.{first-is, first-none}
 use Rattle.table.specs.Row.{outside, taskOf, spareOf, judged, rowOf, numberOf}
-use Rattle.table.specs.Table.{GoodHeader, taskCount, processorCount, spareBits, headerNumber, rowBytes, rowNumber, firstBad, column, tableOf, refusal, accepted, rowsReading}
+use Rattle.table.specs.Table.{taskCount, processorCount, spareBits, headerNumber, rowBytes, rowNumber, firstBad, column, tableOf, refusal, accepted, rowsReading}
+use Rattle.table.specs.Good.{GoodHeader}
 use Rattle.table.specs.declared.Task.{Task}
 use Rattle.table.specs.declared.RowRead.{RowRead}
 use Rattle.table.specs.declared.RowRead.the-variants.{Good, BadPeriod, BadResource, Disagree, BadSum}

@@ -1,13 +1,20 @@
 -- What every table that is read without refusal keeps to.
-use Prim.Native.Nat.{ℕ, _+_, _≤_, _<_}
+use Prim.Native.Nat.{ℕ, _+_, _*_, _≤_, _<_}
 use mathlib.Core.Path.{_≡_}
 use mathlib.Core.List.{List}
 use lib.ListN.{length, getD}
 use lib.Dec.{ltb}
 use Rattle.rank.specs.Rank.{ranksOf}
 use Rattle.rank.specs.Ceiling.{ceilingsOf}
+use Rattle.table.specs.Table.{taskCount, processorCount}
 use Rattle.table.specs.declared.Task.{Task}
 use Rattle.table.specs.declared.Table.{Table}
+
+-- "n is 1 to 64, m 2 to 16", and the length is that of n rows
+pub record GoodHeader (bs : List ℕ) : Type 0 where
+  pub rows : (1 ≤ taskCount bs) × (taskCount bs ≤ 64)
+  pub processors : (2 ≤ processorCount bs) × (processorCount bs ≤ 16)
+  pub whole : length bs ≡ 2 + 11 * taskCount bs
 
 -- "T 1 to 1,000,000, resources 1 to 16. A is above 0 exactly when a resource is named. C1 + A + C2 is at least 1 and at most T."
 pub record GoodTask (t : Task) : Type 0 where

@@ -1,6 +1,5 @@
 -- What the bytes of a table say: the table, or the one refusal 1 to 9 and the row that it names.
-use Prim.Native.Nat.{ℕ, _+_, _*_, _≤_}
-use mathlib.Core.Path.{_≡_}
+use Prim.Native.Nat.{ℕ, _+_, _*_}
 use mathlib.Core.List.{List}
 use mathlib.Core.Bool.{Bool, false, cond, not}
 use lib.ListN.{length, take, drop}
@@ -37,12 +36,6 @@ headerNumber bs =
     (cond (ltb 0 (spareBits bs)) 4
     (cond (not (eqb (length bs) (2 + 11 * taskCount bs))) 5 0))))
 
--- "n is 1 to 64, m 2 to 16", and the length is that of n rows
-pub record GoodHeader (bs : List ℕ) : Type 0 where
-  pub rows : (1 ≤ taskCount bs) × (taskCount bs ≤ 64)
-  pub processors : (2 ≤ processorCount bs) × (processorCount bs ≤ 16)
-  pub whole : length bs ≡ 2 + 11 * taskCount bs
-
 -- "each row is read from its own eleven bytes"; k counts from 0
 abbrev pub rowBytes : List ℕ → ℕ → List ℕ
 rowBytes bs k = take 11 (drop (2 + 11 * k) bs)
@@ -59,21 +52,31 @@ firstBad bs n = first n (λ k. ltb 0 (rowNumber bs k))
 unfoldable pub column : List ℕ → ℕ → (Task → ℕ) → List ℕ
 column bs n field = filled 64 0 n (λ k. field (taskOf (rowBytes bs k)))
 
--- the table of n rows, with the rank of each row and the ceiling of each resource
-unfoldable pub tableOf : List ℕ → ℕ → ℕ → Bool → Table
-tableOf bs n m npp =
+-- a table from its columns, with the rank of each row and the ceiling of each resource
+unfoldable pub ranked : ℕ → ℕ → Bool → List ℕ → List ℕ → List ℕ → List ℕ → List ℕ → Table
+ranked n m npp period c1 a c2 resource =
     record {
       n = n;
       m = m;
       npp = npp;
-      period = column bs n (λ t. t .period);
-      c1 = column bs n (λ t. t .c1);
-      a = column bs n (λ t. t .a);
-      c2 = column bs n (λ t. t .c2);
-      resource = column bs n (λ t. t .resource);
-      rank = ranksOf (column bs n (λ t. t .period)) n;
-      ceiling = ceilingsOf (column bs n (λ t. t .resource)) (ranksOf (column bs n (λ t. t .period)) n) n;
+      period = period;
+      c1 = c1;
+      a = a;
+      c2 = c2;
+      resource = resource;
+      rank = ranksOf period n;
+      ceiling = ceilingsOf resource (ranksOf period n) n;
     }
+
+-- the table of n rows
+unfoldable pub tableOf : List ℕ → ℕ → ℕ → Bool → Table
+tableOf bs n m npp =
+    ranked n m npp
+    (column bs n (λ t. t .period))
+    (column bs n (λ t. t .c1))
+    (column bs n (λ t. t .a))
+    (column bs n (λ t. t .c2))
+    (column bs n (λ t. t .resource))
 
 abbrev pub noTable : Table
 noTable =

@@ -4,7 +4,7 @@ ghost use mathlib.Core.Bool.{Bool};
 ghost use Prim.Native.Nat.{_+_, _*_, _<_, _≤_};
 ghost use lib.ListN.{length};
 ghost use Rattle.table.specs.Row.{outside as Row·outside, judged, rowOf, numberOf};
-ghost use Rattle.table.specs.Table.{headerNumber, rowBytes, rowsReading, refusal, readingOf};
+ghost use Rattle.table.specs.Table.{headerNumber, rowBytes, ranked, rowsReading, refusal, accepted, readingOf};
 
 // A row's fields: period, length of stage one, of the section and of stage two, and the resource (0 is none).
 pub struct Task {
@@ -134,7 +134,7 @@ fn refuse(number: u32, names: u32) -> Reading
         c2: zeros,
         resource: zeros,
         rank: zeros,
-        ceiling: rank::no_ceilings(),
+        ceiling: lists::no_ceilings(),
     };
     Reading {
         number,
@@ -143,7 +143,42 @@ fn refuse(number: u32, names: u32) -> Reading
     }
 }
 
-// The rows behind a good header, column by column, with their ranks and ceilings; or the first bad one's refusal.
+// The table of these columns, with the ranks of its rows and the ceilings of its resources.
+fn finish(
+    n: usize,
+    m: usize,
+    npp: bool,
+    period: [u32; 64],
+    c1: [u32; 64],
+    a: [u32; 64],
+    c2: [u32; 64],
+    resource: [u32; 64],
+) -> Reading
+    requires { ⌜ n ≤ 64 ⌝ }
+    ensures { λ r. ⌜ r ≡ accepted (ranked n m npp period c1 a c2 resource) ⌝ }
+{
+    let rank = rank::ranks(&period, n);
+    let ceiling = rank::ceilings(&resource, &rank, n);
+    let table = Table {
+        n,
+        m,
+        npp,
+        period,
+        c1,
+        a,
+        c2,
+        resource,
+        rank,
+        ceiling,
+    };
+    Reading {
+        number: 0,
+        names: 0,
+        table,
+    }
+}
+
+// The rows behind a good header, column by column, or the first bad one's refusal.
 fn read_rows(bytes: &[u8], n: usize, m: usize, npp: bool) -> Reading
     requires { ⌜ (n ≤ 64) × (length (now bytes) ≡ 2 + 11 * n) ⌝ }
     ensures { λ r. ⌜ r ≡ rowsReading (now (bytes .entry)) n m npp ⌝ }
@@ -166,25 +201,7 @@ fn read_rows(bytes: &[u8], n: usize, m: usize, npp: bool) -> Reading
         resource[i] = t.resource;
         i += 1;
     }
-    let rank = rank::ranks(&period, n);
-    let ceiling = rank::ceilings(&resource, &rank, n);
-    let table = Table {
-        n,
-        m,
-        npp,
-        period,
-        c1,
-        a,
-        c2,
-        resource,
-        rank,
-        ceiling,
-    };
-    Reading {
-        number: 0,
-        names: 0,
-        table,
-    }
+    finish(n, m, npp, period, c1, a, c2, resource)
 }
 
 // The first of 1 to 5 that a header breaks, or 0.

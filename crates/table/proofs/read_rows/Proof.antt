@@ -160,22 +160,19 @@ loop-again c =
       omega arith,
     )
 
-ranks-requires : tie.Need-ranks-requires Inv-loop μ-loop
-ranks-requires c κs = omega arith
-
-ceilings-requires : tie.Need-ceilings-requires Inv-loop μ-loop
-ceilings-requires c κs = omega arith
+finish-requires : tie.Need-finish-requires Inv-loop μ-loop
+finish-requires c κs = omega arith
 
 returns-2 : tie.Need-returns-2 Inv-loop μ-loop
 unfolding tableOf
 returns-2 c =
-    let l = c .before .before .before .before .before .before .loop in
-    let s = c .before .before .before .before .before .before .before .before .before .before .before .before .before in
+    let l = c .before .before .loop in
+    let s = c .before .before .before .before .before .before .before .before .before in
     let bs = s .args .bytes .now in
     let n = s .args .n in
     let q : l .i ≡ n = omega arith in
     let cs : Columns bs n (l .period) (l .c1) (l .a) (l .c2) (l .resource) = rw q at (l .inv .1) in
-    rw (rows-accepted bs n (s .args .m) (s .args .npp) (λ k h. l .inv .0 k (omega arith))) cc
+    rw (rows-accepted bs n (s .args .m) (s .args .npp) (λ k h. l .inv .0 k (omega arith))) (c .finish .ensures ∙ rw (cs .of-period, cs .of-c1, cs .of-a, cs .of-c2, cs .of-resource))
 
 pub read-rows-spec : {M : Type 1} → statement M
 read-rows-spec =
@@ -209,6 +206,5 @@ read-rows-spec =
     add-i
     loop-less
     loop-again
-    ranks-requires
-    ceilings-requires
+    finish-requires
     returns-2)
