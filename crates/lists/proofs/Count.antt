@@ -1,6 +1,6 @@
 -- Counts, and the pigeonhole principle.
-use Prim.Native.Nat.{ℕ, zero, suc, _+_, _-_, _*_, _<_, _≤_, zero-le}
-use mathlib.Core.Path.{_≡_, refl, sym, _∙_, ap}
+use Prim.Native.Nat.{ℕ, zero, suc, _+_, _-_, _<_, _≤_, zero-le}
+use mathlib.Core.Path.{_≡_, refl}
 use mathlib.Core.Bool.{Bool, true, false, cond}
 use mathlib.Core.Logic.{dite}
 use native.Mathlib.Omega.{arith}
@@ -87,9 +87,3 @@ onto (suc m) f g h w l none =
     crowd m (λ i. squash w (f i))
     (λ i k. squash-lt w (f i) m (g i k) l (none i k))
     (λ i j k k' e. h i j k k' (squash-inj w (f i) (f j) (none i k) (none j k') e))
-
-pub count-yes : (k : ℕ) (p : ℕ → Bool) → p k ≡ true → count (k + 1) p ≡ count k p + 1
-count-yes k p h = count-more k p ∙ rw h
-
-pub count-no : (k : ℕ) (p : ℕ → Bool) → p k ≡ false → count (k + 1) p ≡ count k p
-count-no k p h = count-more k p ∙ rw h (omega arith)

@@ -1,14 +1,14 @@
 -- Laws of tabulated lists.
-use Prim.Native.Nat.{ℕ, zero, suc, _+_, _-_, _≤_, _<_}
-use mathlib.Core.Path.{_≡_, refl, sym, _∙_, ap}
+use Prim.Native.Nat.{ℕ, zero, suc, _+_, _-_, _<_}
+use mathlib.Core.Path.{_≡_, refl, _∙_, ap}
 use mathlib.Core.List.{List, [], _∷_, _++_, append-assoc, append-nil}
 use mathlib.Core.Logic.{dite}
 use native.Mathlib.Omega.{arith}
 use native.Mathlib.Decide.{decLt}
 use native.Mathlib.Numerals.{add-one}
 use native.Mathlib.Nat.{sub-zero}
-use lib.ListN.{length, getD, set, replicate, length-append, length-replicate, List·getD-append, getD-replicate, List·getD-eq-default}
-use lib.Seq.{set-at, getD-at, getD-append-add}
+use lib.ListN.{length, getD, set, replicate, length-append, List·getD-append}
+use lib.Seq.{set-at, getD-at}
 use Rattle.lists.specs.Tab.{tab, joined, blank, filled}
 
 pub length-tab : {A : Type 0} (n : ℕ) (f : ℕ → A) → length (tab n f) ≡ n
@@ -26,21 +26,11 @@ getD-tab (suc n) f k d h =
     let e : k ≡ n = omega arith in
     rw e (getD-at (tab n f) (f n) [] d n (length-tab n f)))
 
--- two rules that agree below n give one list
-pub tab-ext : {A : Type 0} (n : ℕ) (f g : ℕ → A) → ((k : ℕ) → k < n → f k ≡ g k) → tab n f ≡ tab n g
-unfolding tab
-tab-ext zero f g h = refl
-tab-ext (suc n) f g h = rw (tab-ext n f g (λ k l. h k (omega arith)), h n (omega arith))
-
 module _ {A : Type 0} (size : ℕ) (z : A) (f : ℕ → A) where
   -- an array of which no place is filled yet
   pub filled-none : filled size z 0 f ≡ blank size z
   unfolding filled tab blank
   filled-none = ap (λ (n : ℕ). replicate n z) (sub-zero size)
-
-  pub length-filled : (n : ℕ) → n ≤ size → length (filled size z n f) ≡ size
-  unfolding filled
-  length-filled n h = simp (length-append, length-tab, length-replicate) (omega arith)
 
   -- the next place is filled by a store
   pub filled-more : (n : ℕ) → n < size → set (filled size z n f) n (f n) ≡ filled size z (n + 1) f

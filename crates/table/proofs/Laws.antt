@@ -1,6 +1,6 @@
 -- Laws of the table's definitions that the reader's loop goes by.
 use Prim.Native.Nat.{ℕ, _+_, _*_, _≤_, _<_}
-use mathlib.Core.Path.{_≡_, refl, sym, _∙_, ap}
+use mathlib.Core.Path.{_≡_, refl, _∙_, ap}
 use mathlib.Core.List.{List}
 use mathlib.Core.Bool.{Bool, true, false, cond, not, _||_, xor}
 use native.Mathlib.Omega.{arith}
@@ -14,7 +14,6 @@ use Rattle.table.specs.Row.{outside, taskOf, spareOf, judged, rowOf, num
 use Rattle.table.specs.Table.{taskCount, processorCount, spareBits, headerNumber, rowBytes, rowNumber, firstBad, column, tableOf, refusal, accepted, rowsReading}
 use Rattle.table.specs.Good.{GoodHeader}
 use Rattle.table.specs.declared.Task.{Task}
-use Rattle.table.specs.declared.RowRead.{RowRead}
 use Rattle.table.specs.declared.RowRead.the-variants.{Good, BadPeriod, BadResource, Disagree, BadSum}
 
 clash : {X : Type 0} → _≡_ {A = ℕ} 0 1 → X

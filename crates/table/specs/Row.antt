@@ -1,5 +1,5 @@
 -- What the eleven bytes w of a row say.
-use Prim.Native.Nat.{ℕ, _+_, _≤_}
+use Prim.Native.Nat.{ℕ, _+_}
 use mathlib.Core.List.{List}
 use mathlib.Core.Bool.{Bool, cond, _||_, xor}
 use lib.Dec.{ltb}

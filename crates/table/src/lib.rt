@@ -1,6 +1,5 @@
 // A task table, read from any bytes: the table with its ranks and ceilings, or the one refusal 1 to 9.
 ghost use mathlib.Core.Path.{_≡_};
-ghost use mathlib.Core.Bool.{Bool};
 ghost use Prim.Native.Nat.{_+_, _*_, _<_, _≤_};
 ghost use lib.ListN.{length};
 ghost use Rattle.table.specs.Row.{outside as Row·outside, judged, rowOf, numberOf};
