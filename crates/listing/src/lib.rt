@@ -38,6 +38,7 @@ struct Digits {
     from: usize,
 }
 
+// Ten places for digits.
 fn no_digits() -> [u8; 10]
     ensures { λ r. ⌜ length r ≡ 10 ⌝ }
 {
@@ -52,6 +53,7 @@ fn digit(x: u32) -> u8
     48 + x as u8
 }
 
+// The decimal digits of x, the last one first stored.
 fn spell(x: u32) -> Digits
     ensures { λ r. ⌜ (length (r .places) ≡ 10) × (r .from < 10) × (drop (r .from) (r .places) ≡ decimal x) ⌝ }
 {
@@ -135,6 +137,7 @@ fn put_resource(out: &mut [u8], at: usize, ceiling: &[u32; 17], r: usize) -> usi
     put_line(out, at, b"resource", &numbers)
 }
 
+// Writes the lines of the used resources, by number.
 fn put_resources(out: &mut [u8], at: usize, ceiling: &[u32; 17]) -> usize
     requires { ⌜ at + 527 ≤ length (now out) ⌝ }
     ensures { λ e. ⌜ Wrote (now (out .entry)) at (now (out .exit)) e (joined 17 (resourceLine (now (ceiling .entry)))) × (e ≤ at + 527) ⌝ }
@@ -148,6 +151,7 @@ fn put_resources(out: &mut [u8], at: usize, ceiling: &[u32; 17]) -> usize
     end
 }
 
+// Writes the lines of the tasks, row by row.
 fn put_tasks(out: &mut [u8], at: usize, t: Table) -> usize
     requires { ⌜ (at + 5248 ≤ length (now out)) × GoodTable t ⌝ }
     ensures { λ e. ⌜ Wrote (now (out .entry)) at (now (out .exit)) e (joined (t .n) (taskLine t)) × (e ≤ at + 5248) ⌝ }

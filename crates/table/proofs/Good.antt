@@ -16,39 +16,21 @@ use Rattle.table.specs.Good.{GoodHeader, GoodTask, taskAt, GoodTable}
 use Rattle.table.specs.declared.Task.{Task}
 use Rattle.table.specs.declared.Table.{Table}
 use Rattle.table.specs.declared.Reading.{Reading}
+use Rattle.table.specs.declared.RowRead.{RowRead}
 use Rattle.table.specs.declared.RowRead.the-variants.{Good, BadPeriod, BadResource, Disagree, BadSum}
-use Rattle.table.proofs.Laws.{inside, header-good}
+use Rattle.table.proofs.Laws.{judged-good, header-good}
 
-or-left : (a b : Bool) → (a || b) ≡ false → a ≡ false
-or-left true b e = e
-or-left false b e = refl
-
-same : (a b : Bool) → xor a b ≡ false → a ≡ b
-unfolding xor
-same true true e = refl
-same true false e = e
-same false true e = sym e
-same false false e = refl
-
--- a row that none of 6 to 9 refuses is good
-pub judged-good : (t : Task) (spare : ℕ) → numberOf (judged t spare) ≡ 0 → GoodTask t
-unfolding judged numberOf
-judged-good t spare h =
-    go (outside (t .period) 1 1000000) (outside (t .resource) 0 16 || ltb 0 spare) (xor (ltb 0 (t .a)) (ltb 0 (t .resource))) (outside (t .c1 + t .a + t .c2) 1 (t .period))
-    refl refl refl refl h
+-- a row that has no refusal is good
+row-good : (w : List ℕ) → numberOf (rowOf w) ≡ 0 → GoodTask (taskOf w)
+unfolding rowOf numberOf
+row-good w h = go (rowOf w) refl h
   where
-    go : (b1 b2 b3 b4 : Bool) → outside (t .period) 1 1000000 ≡ b1 → (outside (t .resource) 0 16 || ltb 0 spare) ≡ b2 → xor (ltb 0 (t .a)) (ltb 0 (t .resource)) ≡ b3 → outside (t .c1 + t .a + t .c2) 1 (t .period) ≡ b4 → numberOf (cond b1 BadPeriod (cond b2 BadResource (cond b3 Disagree (cond b4 BadSum (Good t))))) ≡ 0 → GoodTask t
-    go true b2 b3 b4 e1 e2 e3 e4 h = absurd (omega arith)
-    go false true b3 b4 e1 e2 e3 e4 h = absurd (omega arith)
-    go false false true b4 e1 e2 e3 e4 h = absurd (omega arith)
-    go false false false true e1 e2 e3 e4 h = absurd (omega arith)
-    go false false false false e1 e2 e3 e4 h =
-        record {
-          period = inside (t .period) 1 1000000 e1;
-          resource = inside (t .resource) 0 16 (or-left (outside (t .resource) 0 16) (ltb 0 spare) e2) .1;
-          agree = same (ltb 0 (t .a)) (ltb 0 (t .resource)) e3;
-          sum = inside (t .c1 + t .a + t .c2) 1 (t .period) e4;
-        }
+    go : (r : RowRead) → judged (taskOf w) (spareOf w) ≡ r → numberOf r ≡ 0 → GoodTask (taskOf w)
+    go (Good u) e h = judged-good (taskOf w) (spareOf w) u e .1
+    go BadPeriod e h = absurd (omega arith)
+    go BadResource e h = absurd (omega arith)
+    go Disagree e h = absurd (omega arith)
+    go BadSum e h = absurd (omega arith)
 
 module _ (bs : List ℕ) (n : ℕ) where
   at-column : (f : Task → ℕ) (k : ℕ) → k < n → getD (column bs n f) k 0 ≡ f (taskOf (rowBytes bs k))
@@ -63,10 +45,10 @@ module _ (bs : List ℕ) (n : ℕ) where
 
   -- behind no bad row each row is good
   rows-good : n ≤ firstBad bs n → (k : ℕ) → k < n → GoodTask (taskOf (rowBytes bs k))
-  unfolding firstBad rowNumber rowOf
+  unfolding firstBad rowNumber
   rows-good h k l =
       let e : ltb 0 (rowNumber bs k) ≡ false = first-no n (λ j. ltb 0 (rowNumber bs j)) k (omega arith) in
-      judged-good (taskOf (rowBytes bs k)) (spareOf (rowBytes bs k)) (omega (arith, ltb-false 0 (rowNumber bs k) e))
+      row-good (rowBytes bs k) (omega (arith, ltb-false 0 (rowNumber bs k) e))
 
 rows-table : (bs : List ℕ) (m : ℕ) (npp : Bool) → GoodHeader bs → (2 ≤ m) × (m ≤ 16) → (b : Bool) → ltb (firstBad bs (taskCount bs)) (taskCount bs) ≡ b → (r : Reading) →
     r ≡ cond b (refusal (rowNumber bs (firstBad bs (taskCount bs))) (firstBad bs (taskCount bs) + 1)) (accepted (tableOf bs (taskCount bs) m npp)) →

@@ -1,6 +1,6 @@
 -- Laws of the table's definitions that the reader's loop goes by.
 use Prim.Native.Nat.{ℕ, _+_, _*_, _≤_, _<_}
-use mathlib.Core.Path.{_≡_, refl, _∙_, ap}
+use mathlib.Core.Path.{_≡_, refl, sym, _∙_, ap}
 use mathlib.Core.List.{List}
 use mathlib.Core.Bool.{Bool, true, false, cond, not, _||_, xor}
 use native.Mathlib.Omega.{arith}
@@ -12,7 +12,7 @@ use Rattle.lists.proofs.Tab.{filled-none, filled-more}
 use Rattle.lists.proofs.First.{first-is, first-none}
 use Rattle.table.specs.Row.{outside, taskOf, spareOf, judged, rowOf, numberOf}
 use Rattle.table.specs.Table.{taskCount, processorCount, spareBits, headerNumber, rowBytes, rowNumber, firstBad, column, tableOf, refusal, accepted, rowsReading}
-use Rattle.table.specs.Good.{GoodHeader}
+use Rattle.table.specs.Good.{GoodHeader, GoodTask}
 use Rattle.table.specs.declared.Task.{Task}
 use Rattle.table.specs.declared.RowRead.the-variants.{Good, BadPeriod, BadResource, Disagree, BadSum}
 
@@ -48,21 +48,43 @@ header-good bs h =
           whole = eqb-true (length bs) (2 + 11 * taskCount bs) (not-false _ e5);
         }
 
+or-left : (a b : Bool) → (a || b) ≡ false → a ≡ false
+or-left true b e = e
+or-left false b e = refl
+
+same : (a b : Bool) → xor a b ≡ false → a ≡ b
+unfolding xor
+same true true e = refl
+same true false e = e
+same false true e = sym e
+same false false e = refl
+
+-- a row that is judged good is the one that was judged, and keeps to the limits
+pub judged-good : (t : Task) (spare : ℕ) (u : Task) → judged t spare ≡ Good u → (u ≡ t) × GoodTask t
+unfolding judged
+judged-good t spare u h =
+    go (outside (t .period) 1 1000000) (ltb 16 (t .resource) || ltb 0 spare) (xor (ltb 0 (t .a)) (ltb 0 (t .resource))) (outside (t .c1 + t .a + t .c2) 1 (t .period))
+    refl refl refl refl h
+  where
+    go : (b1 b2 b3 b4 : Bool) → outside (t .period) 1 1000000 ≡ b1 → (ltb 16 (t .resource) || ltb 0 spare) ≡ b2 → xor (ltb 0 (t .a)) (ltb 0 (t .resource)) ≡ b3 → outside (t .c1 + t .a + t .c2) 1 (t .period) ≡ b4 → cond b1 BadPeriod (cond b2 BadResource (cond b3 Disagree (cond b4 BadSum (Good t)))) ≡ Good u → (u ≡ t) × GoodTask t
+    go true b2 b3 b4 e1 e2 e3 e4 h = clash cc
+    go false true b3 b4 e1 e2 e3 e4 h = clash cc
+    go false false true b4 e1 e2 e3 e4 h = clash cc
+    go false false false true e1 e2 e3 e4 h = clash cc
+    go false false false false e1 e2 e3 e4 h = (
+      cc,
+      record {
+        period = inside (t .period) 1 1000000 e1;
+        resource = ltb-false 16 (t .resource) (or-left (ltb 16 (t .resource)) (ltb 0 spare) e2);
+        agree = same (ltb 0 (t .a)) (ltb 0 (t .resource)) e3;
+        sum = inside (t .c1 + t .a + t .c2) 1 (t .period) e4;
+      },
+    )
+
 -- a good row is the task in its bytes
 pub good-task : (w : List ℕ) (t : Task) → rowOf w ≡ Good t → t ≡ taskOf w
-unfolding rowOf judged
-good-task w t h =
-    go (outside (taskOf w .period) 1 1000000)
-    (outside (taskOf w .resource) 0 16 || ltb 0 (spareOf w))
-    (xor (ltb 0 (taskOf w .a)) (ltb 0 (taskOf w .resource)))
-    (outside (taskOf w .c1 + taskOf w .a + taskOf w .c2) 1 (taskOf w .period)) h
-  where
-    go : (b1 b2 b3 b4 : Bool) → cond b1 BadPeriod (cond b2 BadResource (cond b3 Disagree (cond b4 BadSum (Good (taskOf w))))) ≡ Good t → t ≡ taskOf w
-    go true b2 b3 b4 e = clash cc
-    go false true b3 b4 e = clash cc
-    go false false true b4 e = clash cc
-    go false false false true e = clash cc
-    go false false false false e = cc
+unfolding rowOf
+good-task w t h = judged-good (taskOf w) (spareOf w) t h .0
 
 pub good-number : (w : List ℕ) (t : Task) → rowOf w ≡ Good t → numberOf (rowOf w) ≡ 0
 unfolding numberOf

@@ -30,7 +30,7 @@ outside x lo hi = ltb x lo || ltb hi x
 unfoldable pub judged : Task → ℕ → RowRead
 judged t spare =
     cond (outside (t .period) 1 1000000) BadPeriod
-    (cond (outside (t .resource) 0 16 || ltb 0 spare) BadResource
+    (cond (ltb 16 (t .resource) || ltb 0 spare) BadResource
     (cond (xor (ltb 0 (t .a)) (ltb 0 (t .resource))) Disagree
     (cond (outside (t .c1 + t .a + t .c2) 1 (t .period)) BadSum
     (Good t))))

@@ -75,7 +75,7 @@ fn judge(t: Task, spare: u32) -> RowRead
     if outside(t.period, 1, 1000000) {
         return RowRead::BadPeriod;
     }
-    if outside(t.resource, 0, 16) || spare > 0 {
+    if t.resource > 16 || spare > 0 {
         return RowRead::BadResource;
     }
     if (t.a > 0) != (t.resource > 0) {
