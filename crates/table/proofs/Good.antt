@@ -1,8 +1,8 @@
 -- A table that is read without refusal is good: every row keeps to the paper's limits.
 use Prim.Native.Nat.{ℕ, _+_, _≤_, _<_}
-use mathlib.Core.Path.{_≡_, refl, sym, ap}
+use mathlib.Core.Path.{_≡_, refl, ap}
 use mathlib.Core.List.{List}
-use mathlib.Core.Bool.{Bool, true, false, cond, _||_, xor}
+use mathlib.Core.Bool.{Bool, true, false, cond}
 use native.Mathlib.Omega.{arith}
 use borrow.Author.Tests.{ltb-true, ltb-false}
 use lib.ListN.{getD}
@@ -10,7 +10,7 @@ use lib.Dec.{ltb, eqb}
 use Rattle.lists.proofs.Tab.{getD-filled}
 use Rattle.lists.proofs.First.{first-no, first-yes}
 use Rattle.rank.proofs.Order.{ranks-lt}
-use Rattle.table.specs.Row.{outside, taskOf, spareOf, judged, rowOf, numberOf}
+use Rattle.table.specs.Row.{taskOf, spareOf, judged, rowOf, numberOf}
 use Rattle.table.specs.Table.{taskCount, processorCount, protocolBit, headerNumber, rowBytes, rowNumber, firstBad, column, ranked, tableOf, refusal, accepted, rowsReading, readingOf}
 use Rattle.table.specs.Good.{GoodHeader, GoodTask, taskAt, GoodTable}
 use Rattle.table.specs.declared.Task.{Task}
