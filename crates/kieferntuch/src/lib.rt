@@ -1,7 +1,16 @@
 // What C and Rust link: `rt staticlib kieferntuch` makes libkieferntuch.a, and include/kieferntuch.h declares the functions.
 ghost use mathlib.Core.Path.{_≡_};
+ghost use mathlib.Core.Bool.{not};
+ghost use Prim.Native.Nat.{ℕ, _+_, _*_, _<_, _≤_};
+ghost use lib.ListN.{length};
 ghost use Rattle.table.specs.Table.{readingOf};
-ghost use Rattle.kieferntuch.specs.Answer.{answerOf};
+ghost use Rattle.table.specs.Good.{GoodTable};
+ghost use Rattle.plan.specs.Planning.{plannedOf};
+ghost use Rattle.sheet.specs.Sheet.{planBytes, ServesFit, TasksFit};
+ghost use Rattle.kieferntuch.specs.Answer.{answer as Answer·answer, answerOf, short, planAnswer};
+ghost use Rattle.kieferntuch.specs.Sheet.{writtenAt, sheetAfter};
+use plan::Outcome;
+use plan::Plan;
 
 // The number of the refusal, 0 if there is none, what it names, and its mark.
 #[repr(C)]
@@ -11,15 +20,79 @@ pub struct Answer {
     pub mark: u32,
 }
 
+// An answer of these three numbers.
+fn reply(number: u32, names: u32, mark: u32) -> Answer
+    ensures { λ r. ⌜ r ≡ Answer·answer number names mark ⌝ }
+{
+    Answer {
+        number,
+        names,
+        mark,
+    }
+}
+
 // Reads a table from any bytes.
 #[no_mangle]
 pub extern "C" fn kieferntuch_read(table: &[u8]) -> Answer
     ensures { λ r. ⌜ r ≡ answerOf (readingOf (now (table .entry))) ⌝ }
 {
-    let r = table::read_table(table);
-    Answer {
-        number: r.number,
-        names: r.names,
-        mark: 0,
+    let reading = table::read_table(table);
+    reply(reading.number, reading.names, 0)
+}
+
+// Whether a sheet of this size has room for a plan of n rows from byte at on, whatever at is.
+fn has_room(size: usize, at: usize, n: usize) -> bool
+    requires { ⌜ n ≤ 64 ⌝ }
+    ensures { λ r. ⌜ r ≡ not (short size at n) ⌝ }
+{
+    if at > size {
+        return false;
     }
+    size - at >= 12 + 9 * n
+}
+
+// Lends the sheet's part from byte at on to the plan writer.
+fn write_at(sheet: &mut [u8], at: usize, n: usize, m: usize, p: Plan)
+    requires { ⌜ (n ≤ 64) × (m ≤ 16) × (p .s < 16) × (at + (12 + 9 * n) ≤ length (now sheet)) × ServesFit (p .serves) × TasksFit n (p .processor) (p .d1) (p .section) (p .d2) ⌝ }
+    ensures { λ r. ⌜ now (sheet .exit) ≡ writtenAt (now (sheet .entry)) at (planBytes n m (p .s) (p .serves) (p .processor) (p .d1) (p .section) (p .d2)) ⌝ }
+{
+    let serves = p.serves;
+    let processor = p.processor;
+    let d1 = p.d1;
+    let section = p.section;
+    let d2 = p.d2;
+    sheet::write_plan(
+        &mut sheet[at..],
+        n,
+        m,
+        p.s,
+        &serves,
+        &processor,
+        &d1,
+        &section,
+        &d2,
+    );
+}
+
+// Plans a table from any bytes, and writes the plan from byte at of the sheet on.
+#[no_mangle]
+pub extern "C" fn kieferntuch_plan(table: &[u8], at: usize, sheet: &mut [u8]) -> Answer
+    ensures { λ r. ⌜ (r ≡ planAnswer (readingOf (now (table .entry))) at (length (now (sheet .entry)))) × (now (sheet .exit) ≡ sheetAfter (readingOf (now (table .entry))) at (now (sheet .entry))) ⌝ }
+{
+    let r = table::read_table(table);
+    if r.number > 0 {
+        return reply(r.number, r.names, 0);
+    }
+    let t = r.table;
+    if !has_room(sheet.len(), at, t.n) {
+        return reply(10, 0, 0);
+    }
+    let tried = plan::plan_table(t);
+    let outcome = tried.outcome;
+    if let Outcome::Failed(row, mark) = outcome {
+        return reply(11, row, mark);
+    }
+    let p = tried.plan;
+    write_at(sheet, at, t.n, t.m, p);
+    reply(0, 0, 0)
 }

@@ -1,4 +1,4 @@
-// Reads a table from standard input and says on standard output what is in it, or why it is refused.
+// Reads a table from standard input and prints its plan on standard output, or why it is refused.
 // 707 bytes are one more than the longest table: a longer input is refusal 5, unless 2 to 4 applies.
 fn main() {
     let mut input = [0u8; 707];

@@ -1,4 +1,4 @@
--- The text that says what is in a table, or why it is refused.
+-- The text of a plan, or of why there is none.
 use Prim.Native.Nat.{ℕ, _+_}
 use mathlib.Core.List.{List, [], _∷_, _++_}
 use mathlib.Core.Bool.{cond}
@@ -7,11 +7,15 @@ use lib.Dec.{ltb}
 use Rattle.lists.specs.Tab.{joined}
 use Rattle.table.specs.declared.Table.{Table}
 use Rattle.table.specs.declared.Reading.{Reading}
+use Rattle.plan.specs.declared.Plan.{Plan}
+use Rattle.plan.specs.declared.Outcome.{Outcome}
+use Rattle.plan.specs.Trial.{numberOf, namesOf, markOf}
+use Rattle.plan.specs.Planning.{plannedOf}
 use Rattle.listing.specs.Text.{line}
 
 -- the words that lines begin with, letter by letter
-abbrev pub tableWord : List ℕ
-tableWord = 116 ∷ 97 ∷ 98 ∷ 108 ∷ 101 ∷ []
+abbrev pub planWord : List ℕ
+planWord = 112 ∷ 108 ∷ 97 ∷ 110 ∷ []
 
 abbrev pub resourceWord : List ℕ
 resourceWord = 114 ∷ 101 ∷ 115 ∷ 111 ∷ 117 ∷ 114 ∷ 99 ∷ 101 ∷ []
@@ -26,30 +30,38 @@ refusedWord = 114 ∷ 101 ∷ 102 ∷ 117 ∷ 115 ∷ 101 ∷ 100 ∷ []
 unfoldable pub refusedLine : ℕ → ℕ → ℕ → List ℕ
 refusedLine number names mark = line refusedWord (number ∷ names ∷ mark ∷ [])
 
--- table: n, m, the protocol's bit
-unfoldable pub tableLine : Table → List ℕ
-tableLine t = line tableWord (t .n ∷ t .m ∷ cond (t .npp) 1 0 ∷ [])
+-- plan: n, m, s
+unfoldable pub planLine : ℕ → ℕ → ℕ → List ℕ
+planLine n m s = line planWord (n ∷ m ∷ s ∷ [])
 
--- resource: number, ceiling, used ones only; ranks are shown from 1 on
+-- resource: number, processor, "used ones only": an unused one has processor 0
 unfoldable pub resourceLine : List ℕ → ℕ → List ℕ
-resourceLine ceilings r = cond (ltb (getD ceilings r 0) 64) (line resourceWord (r ∷ (getD ceilings r 0 + 1) ∷ [])) []
+resourceLine serves r = cond (ltb 0 (getD serves r 0)) (line resourceWord (r ∷ getD serves r 0 ∷ [])) []
 
--- task: row, T, C1, A, C2, resource, rank; rows and ranks are shown from 1 on
-unfoldable pub taskLine : Table → ℕ → List ℕ
-taskLine t k =
-    line taskWord
-    ((k + 1)
-    ∷ getD (t .period) k 0
-    ∷ getD (t .c1) k 0
-    ∷ getD (t .a) k 0
-    ∷ getD (t .c2) k 0
-    ∷ getD (t .resource) k 0
-    ∷ (getD (t .rank) k 0 + 1)
-    ∷ [])
+-- the lines of resources 1 to n
+unfoldable pub resourceLines : List ℕ → ℕ → List ℕ
+resourceLines serves n = joined n (λ i. resourceLine serves (i + 1))
 
-unfoldable pub tableText : Table → List ℕ
-tableText t = (tableLine t ++ joined 17 (resourceLine (t .ceiling))) ++ joined (t .n) (taskLine t)
+-- task: row, processor, D1, S, D2; rows are shown from 1 on
+unfoldable pub taskLine : List ℕ → List ℕ → List ℕ → List ℕ → ℕ → List ℕ
+taskLine processors d1s sections d2s k =
+    line taskWord ((k + 1) ∷ getD processors k 0 ∷ getD d1s k 0 ∷ getD sections k 0 ∷ getD d2s k 0 ∷ [])
 
--- what the program says of any bytes
+-- the text of a plan for n rows
+unfoldable pub planText : ℕ → ℕ → ℕ → List ℕ → List ℕ → List ℕ → List ℕ → List ℕ → List ℕ
+planText n m s serves processors d1s sections d2s =
+    (planLine n m s ++ resourceLines serves 16) ++ joined n (taskLine processors d1s sections d2s)
+
+-- what comes of planning a table: the text of the plan, or refusal 11 with the row and the mark of the last trial
+unfoldable pub outcomeText : Table → Plan → Outcome → List ℕ
+outcomeText t p o =
+    cond (ltb 0 (numberOf o))
+    (refusedLine (numberOf o) (namesOf o) (markOf o))
+    (planText (t .n) (t .m) (p .s) (p .serves) (p .processor) (p .d1) (p .section) (p .d2))
+
+-- what the program says of any bytes, by what they say as a table
 unfoldable pub listingOf : Reading → List ℕ
-listingOf r = cond (ltb 0 (r .number)) (refusedLine (r .number) (r .names) 0) (tableText (r .table))
+listingOf r =
+    cond (ltb 0 (r .number))
+    (refusedLine (r .number) (r .names) 0)
+    (outcomeText (r .table) (plannedOf (r .table) .plan) (plannedOf (r .table) .outcome))

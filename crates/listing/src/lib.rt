@@ -4,11 +4,10 @@ ghost use Prim.Native.Nat.{_+_, _*_, _<_, _≤_};
 ghost use mathlib.Core.List.{[], _∷_};
 ghost use lib.ListN.{length, drop};
 ghost use Rattle.listing.specs.Text.{decimal, spaced, line, Wrote};
-ghost use Rattle.listing.specs.Listing.{refusedLine, tableLine, resourceLine, taskLine, listingOf};
+ghost use Rattle.listing.specs.Listing.{refusedLine, planLine, resourceLine, resourceLines, taskLine, planText, listingOf};
 ghost use Rattle.lists.specs.Tab.{joined};
 ghost use Rattle.table.specs.Table.{readingOf};
-ghost use Rattle.table.specs.Good.{GoodTable};
-use table::Table;
+use plan::Outcome;
 
 // Writes a part's bytes from place at on, and answers the place behind them.
 fn put_bytes(out: &mut [u8], at: usize, bytes: &[u8]) -> usize
@@ -115,67 +114,86 @@ fn put_refused(out: &mut [u8], number: u32, names: u32, mark: u32) -> usize
     put_line(out, 0, b"refused", &numbers)
 }
 
-// Writes the line of the table at the start.
-fn put_header(out: &mut [u8], t: Table) -> usize
-    requires { ⌜ (39 ≤ length (now out)) × GoodTable t ⌝ }
-    ensures { λ r. ⌜ Wrote (now (out .entry)) 0 (now (out .exit)) r (tableLine t) × (r ≤ 39) ⌝ }
+// Writes the line of the plan at the start.
+fn put_plan_line(out: &mut [u8], n: usize, m: usize, s: usize) -> usize
+    requires { ⌜ (38 ≤ length (now out)) × (n ≤ 64) × (m ≤ 16) × (s ≤ 16) ⌝ }
+    ensures { λ r. ⌜ Wrote (now (out .entry)) 0 (now (out .exit)) r (planLine n m s) × (r ≤ 38) ⌝ }
 {
-    let numbers = [t.n as u32, t.m as u32, lists::one_if(t.npp)];
-    put_line(out, 0, b"table", &numbers)
+    let numbers = [n as u32, m as u32, s as u32];
+    put_line(out, 0, b"plan", &numbers)
 }
 
 // Writes the line of resource r, if it is used.
-fn put_resource(out: &mut [u8], at: usize, ceiling: &[u32; 17], r: usize) -> usize
+fn put_resource(out: &mut [u8], at: usize, serves: &[u32; 17], r: usize) -> usize
     requires { ⌜ (at + 31 ≤ length (now out)) × (r < 17) ⌝ }
-    ensures { λ e. ⌜ Wrote (now (out .entry)) at (now (out .exit)) e (resourceLine (now (ceiling .entry)) r) × (e ≤ at + 31) ⌝ }
+    ensures { λ e. ⌜ Wrote (now (out .entry)) at (now (out .exit)) e (resourceLine (now (serves .entry)) r) × (e ≤ at + 31) ⌝ }
 {
-    let best = ceiling[r];
-    if best >= 64 {
+    let processor = serves[r];
+    if processor == 0 {
         return at;
     }
-    let numbers = [r as u32, best + 1];
+    let numbers = [r as u32, processor];
     put_line(out, at, b"resource", &numbers)
 }
 
 // Writes the lines of the used resources, by number.
-fn put_resources(out: &mut [u8], at: usize, ceiling: &[u32; 17]) -> usize
-    requires { ⌜ at + 527 ≤ length (now out) ⌝ }
-    ensures { λ e. ⌜ Wrote (now (out .entry)) at (now (out .exit)) e (joined 17 (resourceLine (now (ceiling .entry)))) × (e ≤ at + 527) ⌝ }
+fn put_resources(out: &mut [u8], at: usize, serves: &[u32; 17]) -> usize
+    requires { ⌜ at + 496 ≤ length (now out) ⌝ }
+    ensures { λ e. ⌜ Wrote (now (out .entry)) at (now (out .exit)) e (resourceLines (now (serves .entry)) 16) × (e ≤ at + 496) ⌝ }
 {
     let mut end = at;
-    let mut r = 0;
-    while r < 17 {
-        end = put_resource(out, end, ceiling, r);
-        r += 1;
+    let mut i = 0;
+    while i < 16 {
+        end = put_resource(out, end, serves, i + 1);
+        i += 1;
     }
     end
 }
 
-// Writes the lines of the tasks, row by row.
-fn put_tasks(out: &mut [u8], at: usize, t: Table) -> usize
-    requires { ⌜ (at + 5248 ≤ length (now out)) × GoodTable t ⌝ }
-    ensures { λ e. ⌜ Wrote (now (out .entry)) at (now (out .exit)) e (joined (t .n) (taskLine t)) × (e ≤ at + 5248) ⌝ }
+// Writes the lines of n tasks, row by row.
+fn put_tasks(
+    out: &mut [u8],
+    at: usize,
+    n: usize,
+    processor: &[u32; 64],
+    d1: &[u32; 64],
+    section: &[u32; 64],
+    d2: &[u32; 64],
+) -> usize
+    requires { ⌜ (at + 3840 ≤ length (now out)) × (n ≤ 64) ⌝ }
+    ensures { λ e. ⌜ Wrote (now (out .entry)) at (now (out .exit)) e (joined n (taskLine (now (processor .entry)) (now (d1 .entry)) (now (section .entry)) (now (d2 .entry)))) × (e ≤ at + 3840) ⌝ }
 {
-    let n = t.n;
     let mut end = at;
     let mut k = 0;
     while k < n {
-        let numbers = [
-            k as u32 + 1,
-            t.period[k],
-            t.c1[k],
-            t.a[k],
-            t.c2[k],
-            t.resource[k],
-            t.rank[k] + 1,
-        ];
+        let numbers = [k as u32 + 1, processor[k], d1[k], section[k], d2[k]];
         end = put_line(out, end, b"task", &numbers);
         k += 1;
     }
     end
 }
 
-// Says what is in a table, or why it is refused: writes the text at the start of out and answers its length.
+// Writes the text of a plan at the start.
+fn put_plan(
+    out: &mut [u8],
+    n: usize,
+    m: usize,
+    s: usize,
+    serves: &[u32; 17],
+    processor: &[u32; 64],
+    d1: &[u32; 64],
+    section: &[u32; 64],
+    d2: &[u32; 64],
+) -> usize
+    requires { ⌜ (4374 ≤ length (now out)) × (n ≤ 64) × (m ≤ 16) × (s ≤ 16) ⌝ }
+    ensures { λ e. ⌜ Wrote (now (out .entry)) 0 (now (out .exit)) e (planText n m s (now (serves .entry)) (now (processor .entry)) (now (d1 .entry)) (now (section .entry)) (now (d2 .entry))) × (e ≤ 4374) ⌝ }
+{
+    let resources = put_plan_line(out, n, m, s);
+    let tasks = put_resources(out, resources, serves);
+    put_tasks(out, tasks, n, processor, d1, section, d2)
+}
+
+// Plans the table that any bytes say: writes the plan's text, or why it is refused, at the start of out and answers its length.
 pub fn write_listing(bytes: &[u8], out: &mut [u8; 8192]) -> usize
     ensures { λ e. ⌜ Wrote (now (out .entry)) 0 (now (out .exit)) e (listingOf (readingOf (now (bytes .entry)))) × (e ≤ length (now (out .exit))) ⌝ }
 {
@@ -184,8 +202,16 @@ pub fn write_listing(bytes: &[u8], out: &mut [u8; 8192]) -> usize
         return put_refused(out, r.number, r.names, 0);
     }
     let t = r.table;
-    let resources = put_header(out, t);
-    let ceiling = t.ceiling;
-    let tasks = put_resources(out, resources, &ceiling);
-    put_tasks(out, tasks, t)
+    let tried = plan::plan_table(t);
+    let outcome = tried.outcome;
+    if let Outcome::Failed(row, mark) = outcome {
+        return put_refused(out, 11, row, mark);
+    }
+    let p = tried.plan;
+    let serves = p.serves;
+    let processor = p.processor;
+    let d1 = p.d1;
+    let section = p.section;
+    let d2 = p.d2;
+    put_plan(out, t.n, t.m, p.s, &serves, &processor, &d1, &section, &d2)
 }

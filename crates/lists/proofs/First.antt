@@ -47,3 +47,9 @@ pub first-none : (n : ℕ) (p : ℕ → Bool) → ((j : ℕ) → j < n → p j �
 unfolding first
 first-none zero p fails = refl
 first-none (suc n) p fails = rw (fails 0 (omega arith), first-none n (λ j. p (suc j)) (λ j l. fails (suc j) (omega arith)))
+
+-- tests that agree below n have the same first
+pub first-ext : (n : ℕ) (p q : ℕ → Bool) → ((j : ℕ) → j < n → p j ≡ q j) → first n p ≡ first n q
+unfolding first
+first-ext zero p q h = refl
+first-ext (suc n) p q h = rw (h 0 (omega arith), first-ext n (λ k. p (suc k)) (λ k. q (suc k)) (λ j l. h (suc j) (omega arith)))

@@ -2,3 +2,4 @@ pub mod Tab
 pub mod First
 pub mod Count
 pub mod Sets
+pub mod Largest

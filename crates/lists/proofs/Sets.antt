@@ -1,11 +1,11 @@
 -- Laws of stores and of what stands behind a place.
-use Prim.Native.Nat.{ℕ, suc, _+_, _-_, _<_}
+use Prim.Native.Nat.{ℕ, suc, _+_, _-_, _<_, _≤_}
 use mathlib.Core.Path.{_≡_, sym, _∙_, ap}
-use mathlib.Core.List.{List, [], _∷_, _++_}
+use mathlib.Core.List.{List, [], _∷_, _++_, append-assoc}
 use native.Mathlib.Omega.{arith}
 use native.Mathlib.Numerals.{add-one}
 use lib.ListN.{length, getD, take, drop, set, length-set, length-drop}
-use lib.Seq.{sets, take-all, take-suc, length-take-le, drop-cons, getD-set-same, drop-set-lt}
+use lib.Seq.{sets, sets-eq, set-comm, take-all, take-suc, length-take-le, drop-cons, drop-drop, getD-set-same, drop-set-lt}
 
 module _ {A : Type 0} where
   -- stores one run behind the other are one run
@@ -33,3 +33,21 @@ module _ {A : Type 0} where
   -- all that stands from a place on
   pub take-rest : (l : List A) (i n : ℕ) → length l ≡ n → take (n - i) (drop i l) ≡ drop i l
   take-rest l i n h = take-all (n - i) (drop i l) (omega (arith, length-drop i l))
+
+  -- the last store of a run may come first
+  pub sets-last : (l : List A) (i : ℕ) (u : List A) (b : A) → sets l i (u ++ (b ∷ [])) ≡ sets (set l (i + length u) b) i u
+  sets-last l i [] b =
+      let e : i ≡ i + 0 = omega arith in
+      ap (λ (k : ℕ). set l k b) e
+  sets-last l i (a ∷ u) b =
+      let e : suc i + length u ≡ i + suc (length u) = omega arith in
+      sets-last (set l i a) (suc i) u b
+      ∙ ap (λ (k : ℕ). sets (set (set l i a) k b) (suc i) u) e
+      ∙ ap (λ (k : List A). sets k (suc i) u) (set-comm l i (i + suc (length u)) a b (λ q. omega arith))
+
+  -- a run that is stored from the start of a part on, and the part put back, is stored from the part's place on
+  pub sets-part : (l : List A) (at : ℕ) (u : List A) → at + length u ≤ length l → take at l ++ sets (drop at l) 0 u ≡ sets l at u
+  sets-part l at u h =
+      let k : 0 + length u ≤ length (drop at l) = omega (arith, length-drop at l) in
+      let e : at + (0 + length u) ≡ at + length u = omega arith in
+      rw (sets-eq u (drop at l) 0 k, sets-eq u l at h, drop-drop (0 + length u) at l, e, append-assoc)

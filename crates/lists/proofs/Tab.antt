@@ -1,14 +1,14 @@
 -- Laws of tabulated lists.
-use Prim.Native.Nat.{ℕ, zero, suc, _+_, _-_, _<_}
+use Prim.Native.Nat.{ℕ, zero, suc, _+_, _-_, _*_, _≤_, _<_}
 use mathlib.Core.Path.{_≡_, refl, _∙_, ap}
 use mathlib.Core.List.{List, [], _∷_, _++_, append-assoc, append-nil}
 use mathlib.Core.Logic.{dite}
 use native.Mathlib.Omega.{arith}
 use native.Mathlib.Decide.{decLt}
 use native.Mathlib.Numerals.{add-one}
-use native.Mathlib.Nat.{sub-zero}
-use lib.ListN.{length, getD, set, replicate, length-append, List·getD-append}
-use lib.Seq.{set-at, getD-at}
+use native.Mathlib.Nat.{add-zero, add-suc, mul-suc, sub-zero}
+use lib.ListN.{length, getD, set, replicate, length-append, length-replicate, getD-replicate, List·getD-append}
+use lib.Seq.{set-at, getD-at, getD-append-add}
 use Rattle.lists.specs.Tab.{tab, joined, blank, filled}
 
 pub length-tab : {A : Type 0} (n : ℕ) (f : ℕ → A) → length (tab n f) ≡ n
@@ -26,6 +26,19 @@ getD-tab (suc n) f k d h =
     let e : k ≡ n = omega arith in
     rw e (getD-at (tab n f) (f n) [] d n (length-tab n f)))
 
+-- a list by its first places and the others
+pub tab-append : {A : Type 0} (m n : ℕ) (f : ℕ → A) → tab (m + n) f ≡ tab m f ++ tab n (λ i. f (m + i))
+unfolding tab
+tab-append m zero f = rw (add-zero m, append-nil)
+tab-append m (suc n) f = rw (add-suc, tab-append m n f, append-assoc)
+
+-- a list by the places before one of them, that one, and those behind it
+pub tab-split : {A : Type 0} (m n : ℕ) (f : ℕ → A) → tab (m + suc n) f ≡ tab m f ++ (f m ∷ tab n (λ i. f (suc m + i)))
+unfolding tab
+tab-split m n f =
+    let e : m + suc n ≡ suc m + n = omega arith in
+    rw (e, tab-append (suc m) n f, append-assoc)
+
 module _ {A : Type 0} (size : ℕ) (z : A) (f : ℕ → A) where
   -- an array of which no place is filled yet
   pub filled-none : filled size z 0 f ≡ blank size z
@@ -39,6 +52,10 @@ module _ {A : Type 0} (size : ℕ) (z : A) (f : ℕ → A) where
       let e : size - n ≡ suc (size - suc n) = omega arith in
       rw (e, add-one, append-assoc) (set-at (tab n f) z (replicate (size - suc n) z) (f n) n (length-tab n f))
 
+  -- the same, for an array that is known to be filled so far
+  pub filled-next : (n : ℕ) (out : List A) → n < size → out ≡ filled size z n f → set out n (f n) ≡ filled size z (n + 1) f
+  filled-next n out h e = ap (λ (x : List A). set x n (f n)) e ∙ filled-more n h
+
   -- an array of which every place is filled
   pub filled-all : filled size z size f ≡ tab size f
   unfolding filled
@@ -50,7 +67,37 @@ module _ {A : Type 0} (size : ℕ) (z : A) (f : ℕ → A) where
   unfolding filled
   getD-filled n k d h = List·getD-append (tab n f) (replicate (size - n) z) d k (omega (arith, length-tab n f)) ∙ getD-tab n f k d h
 
+  -- the places behind the filled ones
+  pub getD-rest : (n k : ℕ) (d : A) → n ≤ k → k < size → getD (filled size z n f) k d ≡ z
+  unfolding filled
+  getD-rest n k d h l =
+      let e : k ≡ length (tab n f) + (k - n) = omega (arith, length-tab n f) in
+      ap (λ (i : ℕ). getD (tab n f ++ replicate (size - n) z) i d) e
+      ∙ getD-append-add (tab n f) (replicate (size - n) z) (k - n) d
+      ∙ getD-replicate (size - n) (k - n) z d (omega arith)
+
+  pub length-filled : (n : ℕ) → n ≤ size → length (filled size z n f) ≡ size
+  unfolding filled
+  length-filled n h = omega (arith, length-append (tab n f) (replicate (size - n) z), length-tab n f, length-replicate (size - n) z)
+
+-- no place of a blank array differs, nor does what is read past its end
+pub getD-blank : {A : Type 0} (size : ℕ) (z : A) (k : ℕ) → getD (blank size z) k z ≡ z
+unfolding blank
+getD-blank zero z k = refl
+getD-blank (suc size) z zero = refl
+getD-blank (suc size) z (suc k) = getD-blank size z k
+
 -- one list more behind the others
 pub joined-more : {A : Type 0} (n : ℕ) (f : ℕ → List A) → joined (n + 1) f ≡ joined n f ++ f n
 unfolding joined
 joined-more n f = rw add-one
+
+pub length-blank : {A : Type 0} (n : ℕ) (z : A) → length (blank n z) ≡ n
+unfolding blank
+length-blank n z = length-replicate n z
+
+-- lists of one length, one behind the other
+pub length-joined : {A : Type 0} (n w : ℕ) (f : ℕ → List A) → ((i : ℕ) → length (f i) ≡ w) → length (joined n f) ≡ w * n
+unfolding joined
+length-joined zero w f h = omega arith
+length-joined (suc n) w f h = simp length-append (omega (arith, length-joined n w f h, h n, mul-suc w n))

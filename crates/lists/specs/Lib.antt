@@ -1,3 +1,4 @@
 pub mod Tab
 pub mod First
 pub mod Count
+pub mod Largest

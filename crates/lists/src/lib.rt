@@ -11,8 +11,8 @@ pub fn no_column() -> [u32; 64]
     [0u32; 64]
 }
 
-// 17 places, one for each resource at its number, with 0 at each.
-pub fn no_ceilings() -> [u32; 17]
+// 17 places, one for each resource or processor at its number, with 0 at each.
+pub fn no_numbered() -> [u32; 17]
     ensures { λ r. ⌜ r ≡ blank 17 0 ⌝ }
 {
     [0u32; 17]

@@ -9,12 +9,10 @@ use lib.ListN.{getD}
 use lib.Dec.{ltb, eqb}
 use Rattle.lists.proofs.Tab.{getD-filled}
 use Rattle.lists.proofs.First.{first-no, first-yes}
-use Rattle.rank.proofs.Order.{ranks-lt}
 use Rattle.table.specs.Row.{taskOf, spareOf, judged, rowOf, numberOf}
 use Rattle.table.specs.Table.{taskCount, processorCount, protocolBit, headerNumber, rowBytes, rowNumber, firstBad, column, ranked, tableOf, refusal, accepted, rowsReading, readingOf}
 use Rattle.table.specs.Good.{GoodHeader, GoodTask, taskAt, GoodTable}
 use Rattle.table.specs.declared.Task.{Task}
-use Rattle.table.specs.declared.Table.{Table}
 use Rattle.table.specs.declared.Reading.{Reading}
 use Rattle.table.specs.declared.RowRead.{RowRead}
 use Rattle.table.specs.declared.RowRead.the-variants.{Good, BadPeriod, BadResource, Disagree, BadSum}
@@ -78,7 +76,3 @@ table-good bs r q z = go (ltb 0 (headerNumber bs)) refl q
     go false e q =
         let g = header-good bs (omega (arith, ltb-false 0 (headerNumber bs) e)) in
         rows-table bs (processorCount bs) (eqb (protocolBit bs) 1) g (g .processors) (ltb (firstBad bs (taskCount bs)) (taskCount bs)) refl r q z
-
--- every row has a rank below n
-pub rank-small : (t : Table) → GoodTable t → (k : ℕ) → k < t .n → getD (t .rank) k 0 < t .n
-rank-small t g k l = omega (arith, ap (λ (x : List ℕ). getD x k 0) (g .ranks), ranks-lt (t .period) (t .n) (g .rows .1) k l)

@@ -133,7 +133,7 @@ fn refuse(number: u32, names: u32) -> Reading
         c2: zeros,
         resource: zeros,
         rank: zeros,
-        ceiling: lists::no_ceilings(),
+        ceiling: lists::no_numbered(),
     };
     Reading {
         number,

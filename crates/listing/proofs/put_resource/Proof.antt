@@ -8,23 +8,20 @@ use Rattle.listing.proofs.Text.{wrote-nothing}
 use Rattle.listing.proofs.put_resource.Statement.{statement}
 use Rattle.listing.proofs.put_resource.Tie as tie
 
-mul-best : tie.Need-mul-best
-mul-best c = search needs
+mul-processor : tie.Need-mul-processor
+mul-processor c = search needs
 
-element-copy-out-best : tie.Need-element-copy-out-best
-element-copy-out-best c = search needs
+element-copy-out-processor : tie.Need-element-copy-out-processor
+element-copy-out-processor c = search needs
 
 returns : tie.Need-returns
 unfolding resourceLine
 returns c =
     let a = c .before .before .before .args in
-    (rw (le-ltb (getD (a .ceiling .now) (a .r) 0) 64 (c .if1 .taken)) (wrote-nothing (a .out .now) (a .at)), omega arith)
+    (rw (le-ltb 0 (getD (a .serves .now) (a .r) 0) (omega arith)) (wrote-nothing (a .out .now) (a .at)), omega arith)
 
 cast-t11 : tie.Need-cast-t11
 cast-t11 c = search needs
-
-add-t13 : tie.Need-add-t13
-add-t13 c = search needs
 
 slice-aggregate-put-line : tie.Need-slice-aggregate-put-line
 slice-aggregate-put-line c = search needs
@@ -42,19 +39,17 @@ returns-2 : tie.Need-returns-2
 unfolding resourceLine
 returns-2 c =
     let p = c .before .before .put-line .ensures in
-    let b = c .before .before .before .before .before .before in
-    let a = b .before .before .before .args in
-    (rw (lt-ltb (getD (a .ceiling .now) (a .r) 0) 64 (b .if1 .left)) (p .0), omega arith)
+    let a = c .before .before .before .before .before .before .before .before .before .args in
+    (rw (lt-ltb 0 (getD (a .serves .now) (a .r) 0) (omega arith)) (p .0), omega arith)
 
 pub put-resource-spec : {M : Type 1} → statement M
 put-resource-spec =
     tie.close
     (tie.spec
-    mul-best
-    element-copy-out-best
+    mul-processor
+    element-copy-out-processor
     returns
     cast-t11
-    add-t13
     slice-aggregate-put-line
     slice-aggregate-put-line-2
     put-line-requires

@@ -1,9 +1,8 @@
--- `listing::put_tasks` meets its contract. The loop's invariant: the lines of the first k rows are written, in at most 82 bytes each.
+-- `listing::put_tasks` meets its contract. The loop's invariant: the lines of the first k rows are written, in at most 60 bytes each.
 use Prim.Native.Nat.{_+_, _-_, _*_, _≤_}
 use mathlib.Core.Path.{_≡_}
 use native.Mathlib.Omega.{arith}
 use borrow.Author.Needs.{needs}
-use Rattle.table.proofs.Good.{rank-small}
 use Rattle.lists.specs.Tab.{joined}
 use Rattle.lists.proofs.Tab.{joined-more}
 use Rattle.listing.specs.Text.{Wrote}
@@ -13,11 +12,11 @@ use Rattle.listing.proofs.put_tasks.Statement.{statement}
 use Rattle.listing.proofs.put_tasks.Tie as tie
 
 abbrev Inv-loop : tie.InvT-loop
-Inv-loop out₀ at t n end₀ k₀ t9 out end k =
-    (k ≤ n) × Wrote out₀ at out end (joined k (taskLine t)) × (end ≤ at + 82 * k)
+Inv-loop out₀ at n processor d1 section d2 end₀ k₀ t11 out end k =
+    (k ≤ n) × Wrote out₀ at out end (joined k (taskLine processor d1 section d2)) × (end ≤ at + 60 * k)
 
 abbrev μ-loop : tie.MeasureT-loop
-μ-loop out₀ at t n end₀ k₀ t9 out end k = n - k
+μ-loop out₀ at n processor d1 section d2 end₀ k₀ t11 out end k = n - k
 
 loop-holds : tie.Need-loop-holds Inv-loop μ-loop
 unfolding joined
@@ -25,53 +24,35 @@ loop-holds c =
     let a = c .before .args in
     (omega arith, wrote-nothing (a .out .now) (a .at), omega arith)
 
-cast-t11 : tie.Need-cast-t11 Inv-loop μ-loop
-cast-t11 c = search needs
+cast-t13 : tie.Need-cast-t13 Inv-loop μ-loop
+cast-t13 c = search needs
 
-add-t12 : tie.Need-add-t12 Inv-loop μ-loop
-add-t12 c = search needs
+add-t14 : tie.Need-add-t14 Inv-loop μ-loop
+add-t14 c = search needs
 
-mul-t13 : tie.Need-mul-t13 Inv-loop μ-loop
-mul-t13 c = search needs
+mul-t15 : tie.Need-mul-t15 Inv-loop μ-loop
+mul-t15 c = search needs
 
-element-copy-out-t16 : tie.Need-element-copy-out-t16 Inv-loop μ-loop
-element-copy-out-t16 c = search needs
+element-copy-out-t18 : tie.Need-element-copy-out-t18 Inv-loop μ-loop
+element-copy-out-t18 c = search needs
 
-mul-t17 : tie.Need-mul-t17 Inv-loop μ-loop
-mul-t17 c = search needs
+mul-t19 : tie.Need-mul-t19 Inv-loop μ-loop
+mul-t19 c = search needs
 
-element-copy-out-t20 : tie.Need-element-copy-out-t20 Inv-loop μ-loop
-element-copy-out-t20 c = search needs
+element-copy-out-t22 : tie.Need-element-copy-out-t22 Inv-loop μ-loop
+element-copy-out-t22 c = search needs
 
-mul-t21 : tie.Need-mul-t21 Inv-loop μ-loop
-mul-t21 c = search needs
+mul-t23 : tie.Need-mul-t23 Inv-loop μ-loop
+mul-t23 c = search needs
 
-element-copy-out-t24 : tie.Need-element-copy-out-t24 Inv-loop μ-loop
-element-copy-out-t24 c = search needs
+element-copy-out-t26 : tie.Need-element-copy-out-t26 Inv-loop μ-loop
+element-copy-out-t26 c = search needs
 
-mul-t25 : tie.Need-mul-t25 Inv-loop μ-loop
-mul-t25 c = search needs
+mul-t27 : tie.Need-mul-t27 Inv-loop μ-loop
+mul-t27 c = search needs
 
-element-copy-out-t28 : tie.Need-element-copy-out-t28 Inv-loop μ-loop
-element-copy-out-t28 c = search needs
-
-mul-t29 : tie.Need-mul-t29 Inv-loop μ-loop
-mul-t29 c = search needs
-
-element-copy-out-t32 : tie.Need-element-copy-out-t32 Inv-loop μ-loop
-element-copy-out-t32 c = search needs
-
-mul-t33 : tie.Need-mul-t33 Inv-loop μ-loop
-mul-t33 c = search needs
-
-element-copy-out-t36 : tie.Need-element-copy-out-t36 Inv-loop μ-loop
-element-copy-out-t36 c = search needs
-
-add-t37 : tie.Need-add-t37 Inv-loop μ-loop
-add-t37 c =
-    let l = c .before .before .before .before .before .before .before .loop in
-    let s = c .before .before .before .before .before .before .before .before .before in
-    omega (arith, rank-small (s .args .t3) (s .pre .1) (l .k) (omega arith), s .pre .1 .rows)
+element-copy-out-t30 : tie.Need-element-copy-out-t30 Inv-loop μ-loop
+element-copy-out-t30 c = search needs
 
 slice-aggregate-put-line : tie.Need-slice-aggregate-put-line Inv-loop μ-loop
 slice-aggregate-put-line c = search needs
@@ -81,9 +62,10 @@ slice-aggregate-put-line-2 c = search needs
 
 put-line-requires : tie.Need-put-line-requires Inv-loop μ-loop
 put-line-requires c κs =
-    let l = c .before .before .before .before .before .before .before .before .before .before .loop in
-    let a = c .before .before .before .before .before .before .before .before .before .before .before .before .args in
-    omega (arith, wrote-length (joined (l .k) (taskLine (a .t3))) (l .inv .1))
+    let l = c .before .before .before .before .before .before .before .before .loop in
+    let a = c .before .before .before .before .before .before .before .before .before .before .args in
+    let f = taskLine (a .processor .now) (a .d1 .now) (a .section .now) (a .d2 .now) in
+    omega (arith, wrote-length (joined (l .k) f) (l .inv .1))
 
 add-k : tie.Need-add-k Inv-loop μ-loop
 add-k c = search needs
@@ -95,23 +77,22 @@ loop-again : tie.Need-loop-again Inv-loop μ-loop
 unfolding taskLine
 loop-again c =
     let p = c .before .before in
-    let l = p .before .before .before .before .before .before .before .before .before .before .before .loop in
-    let a = p .before .before .before .before .before .before .before .before .before .before .before .before .before .args in
-    let f = taskLine (a .t3) in
+    let l = p .before .before .before .before .before .before .before .before .before .loop in
+    let a = p .before .before .before .before .before .before .before .before .before .before .before .args in
+    let f = taskLine (a .processor .now) (a .d1 .now) (a .section .now) (a .d2 .now) in
     (omega arith, rw (joined-more (l .k) f) (then (joined (l .k) f) (f (l .k)) (l .inv .1) (p .put-line .ensures .0)), omega (arith, p .put-line .ensures .1))
 
 same-length : tie.Need-same-length Inv-loop μ-loop
 same-length c =
     let l = c .before .loop in
     let a = c .before .before .before .args in
-    wrote-length (joined (l .k) (taskLine (a .t3))) (l .inv .1)
+    wrote-length (joined (l .k) (taskLine (a .processor .now) (a .d1 .now) (a .section .now) (a .d2 .now))) (l .inv .1)
 
 returns : tie.Need-returns Inv-loop μ-loop
 returns c =
     let l = c .before .loop in
-    let s = c .before .before .before in
-    let q : l .k ≡ s .args .t3 .n = omega arith in
-    (rw q at (l .inv .1), omega (arith, s .pre .1 .rows))
+    let q : l .k ≡ c .before .before .before .args .n = omega arith in
+    (rw q at (l .inv .1), omega arith)
 
 pub put-tasks-spec : {M : Type 1} → statement M
 put-tasks-spec =
@@ -120,21 +101,16 @@ put-tasks-spec =
     Inv-loop
     μ-loop
     loop-holds
-    cast-t11
-    add-t12
-    mul-t13
-    element-copy-out-t16
-    mul-t17
-    element-copy-out-t20
-    mul-t21
-    element-copy-out-t24
-    mul-t25
-    element-copy-out-t28
-    mul-t29
-    element-copy-out-t32
-    mul-t33
-    element-copy-out-t36
-    add-t37
+    cast-t13
+    add-t14
+    mul-t15
+    element-copy-out-t18
+    mul-t19
+    element-copy-out-t22
+    mul-t23
+    element-copy-out-t26
+    mul-t27
+    element-copy-out-t30
     slice-aggregate-put-line
     slice-aggregate-put-line-2
     put-line-requires

@@ -6,11 +6,11 @@ use Rattle.table.proofs.refuse.Tie as tie
 no-column-requires : tie.Need-no-column-requires
 no-column-requires c κs = search needs
 
-no-ceilings-requires : tie.Need-no-ceilings-requires
-no-ceilings-requires c κs = search needs
+no-numbered-requires : tie.Need-no-numbered-requires
+no-numbered-requires c κs = search needs
 
 returns : tie.Need-returns
-returns c = rw (c .before .no-column .ensures, c .no-ceilings .ensures)
+returns c = rw (c .before .no-column .ensures, c .no-numbered .ensures)
 
 pub refuse-spec : {M : Type 1} → statement M
-refuse-spec = tie.close (tie.spec no-column-requires no-ceilings-requires returns)
+refuse-spec = tie.close (tie.spec no-column-requires no-numbered-requires returns)

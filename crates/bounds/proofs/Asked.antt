@@ -1,0 +1,50 @@
+-- Laws of the demand, once over the list of terms: it grows with the time, and by one term at a time.
+use Prim.Native.Nat.{ℕ, zero, suc, _+_, _-_, _*_, _/_, _≤_, _<_, zero-le}
+use mathlib.Core.Path.{_≡_}
+use mathlib.Core.List.{List, [], _∷_, _++_}
+use native.Mathlib.Omega.{arith}
+use native.Mathlib.Numerals.{add-one}
+use native.Mathlib.Nat.{div-zero, div-mul-le-self, le-div-iff-mul-le, div-lt-iff-lt-mul, mul-le-mul-left, mul-le-mul-right, le-trans, zero-lt-suc, add-le-add}
+use lib.ListN.{getD}
+use Rattle.lists.specs.Tab.{tab}
+use Rattle.bounds.specs.Demand.{Term, ceil, demand}
+use Rattle.bounds.specs.Terms.{termAt, termsIn}
+
+div-mono : (p : ℕ) {a b : ℕ} → a ≤ b → a / p ≤ b / p
+div-mono zero {a} {b} h = rw (div-zero a, div-zero b) zero-le
+div-mono (suc p) {a} {b} h = le-div-iff-mul-le (zero-lt-suc p) .1 (le-trans (div-mul-le-self a (suc p)) h)
+
+-- a term whose length is at most its period asks for less than t and one period more
+pub share-le : (t period len : ℕ) → len ≤ period → ceil t period * len ≤ t + (period - 1)
+unfolding ceil
+share-le t period len h =
+    le-trans (mul-le-mul-left ((t + (period - 1)) / period) h) (div-mul-le-self (t + (period - 1)) period)
+
+-- within one period a term is asked for once
+pub once : (t period len : ℕ) → 1 ≤ t → t ≤ period → ceil t period * len ≡ len
+unfolding ceil
+once t period len a b =
+    let some : 0 < period = omega arith in
+    let e : (t + (period - 1)) / period ≡ 1 =
+    let up : 1 ≤ (t + (period - 1)) / period = le-div-iff-mul-le some .1 (omega arith) in
+    let down : (t + (period - 1)) / period < 2 = div-lt-iff-lt-mul some .1 (omega arith) in
+    omega arith in
+    rw e (omega arith)
+
+-- within more time no less is asked for
+pub mono : (xs : List Term) {t u : ℕ} → t ≤ u → demand xs t ≤ demand xs u
+unfolding demand ceil
+mono [] h = zero-le
+mono (x ∷ xs) {t} {u} h =
+    let q : t + (x .period - 1) ≤ u + (x .period - 1) = omega arith in
+    add-le-add (mul-le-mul-right (x .len) (div-mono (x .period) q)) (mono xs h)
+
+pub demand-append : (xs ys : List Term) (t : ℕ) → demand (xs ++ ys) t ≡ demand xs t + demand ys t
+unfolding demand
+demand-append [] ys t = omega arith
+demand-append (x ∷ xs) ys t = omega (arith, demand-append xs ys t)
+
+-- one term more
+pub demand-more : (periods lens : List ℕ) (i t : ℕ) → demand (termsIn periods lens (i + 1)) t ≡ demand (termsIn periods lens i) t + ceil t (getD periods i 0) * getD lens i 0
+unfolding demand termsIn tab
+demand-more periods lens i t = rw (add-one, demand-append (tab i (termAt periods lens)) (termAt periods lens i ∷ []) t) (omega arith)

@@ -1,0 +1,4 @@
+pub mod Asked
+pub mod Terms
+pub mod Search
+pub mod Lanes

@@ -1,0 +1,162 @@
+-- The least bound, once for every list of terms: what is on the way up to it, and that the definition is the least time that covers.
+use Prim.Native.Nat.{ℕ, zero, suc, _+_, _≤_, _<_}
+use mathlib.Core.Path.{_≡_, refl, sym, _∙_, ap}
+use mathlib.Core.List.{List}
+use mathlib.Core.Bool.{Bool, true, false, cond, _&&_}
+use mathlib.Core.Logic.{_↔_, dite}
+use native.Mathlib.Omega.{arith}
+use native.Mathlib.Decide.{decLt}
+use borrow.Author.Tests.{lt-ltb, le-ltb, eq-eqb, ne-eqb, ltb-true, ltb-false, eqb-true}
+use lib.Dec.{ltb, eqb}
+use Rattle.lists.specs.First.{first}
+use Rattle.lists.proofs.First.{first-no, first-yes, first-is, first-none}
+use Rattle.bounds.specs.Demand.{Term, demand}
+use Rattle.bounds.specs.Bound.{meets, least, boundOf, Least, LeastBound, isMissing, timeOf}
+use Rattle.bounds.specs.declared.Bound.{Bound}
+use Rattle.bounds.specs.declared.Bound.the-variants.{At, Missing}
+use Rattle.bounds.proofs.Asked.{mono}
+
+module _ (terms : List Term) (own : ℕ) where
+  -- t is on the way up: it is asked for, and no time that covers is below it
+  pub record Rising (t : ℕ) : Type 0 where
+    pub up : t ≤ own + demand terms t
+    pub under : (u : ℕ) → own + demand terms u ≤ u → t ≤ u
+
+  pub rising-own : Rising own
+  rising-own = record { up = omega arith; under = λ u e. omega arith }
+
+  -- and so is what is asked for within t
+  pub rises : (t : ℕ) → Rising t → Rising (own + demand terms t)
+  rises t r =
+      record {
+        up = omega (arith, mono terms (r .up));
+        under = λ u e. omega (arith, mono terms (r .under u e));
+      }
+
+  meets-no : (t : ℕ) → (own + demand terms t ≡ t → ⊥) → meets terms own t ≡ false
+  meets-no zero h = refl
+  meets-no (suc t) h = rw (lt-ltb 0 (suc t) (omega arith), ne-eqb (own + demand terms (suc t)) (suc t) h)
+
+  meets-yes : (t : ℕ) → 1 ≤ t → own + demand terms t ≡ t → meets terms own t ≡ true
+  meets-yes t l e = rw (lt-ltb 0 t l, eq-eqb (own + demand terms t) t e)
+
+  met : (t : ℕ) → meets terms own t ≡ true → (1 ≤ t) × (own + demand terms t ≡ t)
+  met t e = go (ltb 0 t) (eqb (own + demand terms t) t) refl refl e
+    where
+      go : (a b : Bool) → ltb 0 t ≡ a → eqb (own + demand terms t) t ≡ b → (a && b) ≡ true → (1 ≤ t) × (own + demand terms t ≡ t)
+      go true b f g e = (ltb-true 0 t f, eqb-true (own + demand terms t) t (g ∙ e))
+      go false b f g e = let z : _≡_ {A = ℕ} 0 1 = cc in absurd (omega arith)
+
+  -- a time on the way up that is just what is asked for is the bound
+  pub least-at : (limit t : ℕ) → 1 ≤ t → t ≤ limit → Rising t → own + demand terms t ≡ t → least terms own limit ≡ At t
+  unfolding least
+  least-at limit t s l r e =
+      let q : first (suc limit) (meets terms own) ≡ t = first-is (suc limit) (meets terms own) t (omega arith) (λ j k. meets-no j (λ f. omega (arith, r .under j (omega arith)))) (meets-yes t s e) in
+      rw (q, le-ltb limit t l)
+
+  -- behind a time on the way up that is above the limit there is none
+  pub least-none : (limit t : ℕ) → limit < t → Rising t → least terms own limit ≡ Missing
+  unfolding least
+  least-none limit t l r =
+      let q : first (suc limit) (meets terms own) ≡ suc limit = first-none (suc limit) (meets terms own) (λ j k. meets-no j (λ f. omega (arith, r .under j (omega arith)))) in
+      rw (q, lt-ltb limit (suc limit) (omega arith))
+
+  -- below a time that covers there is one that is just what is asked for
+  covered : (f u : ℕ) → u ≤ f → own + demand terms u ≤ u → (v : ℕ) × (v ≤ u) × (own + demand terms v ≡ v)
+  covered zero u l h = (u, omega arith, omega arith)
+  covered (suc f) u l h =
+      dite (decLt (own + demand terms u) u)
+      (λ s.
+      let (v, k, e) = covered f (own + demand terms u) (omega arith) (omega (arith, mono terms h)) in
+      (v, omega arith, e))
+      (λ s. (u, omega arith, omega arith))
+
+  -- a bound is the least time that covers what is asked for within it
+  pub least-is : (limit t : ℕ) → 1 ≤ own → least terms own limit ≡ At t → Least terms own t × (t ≤ limit)
+  unfolding least
+  least-is limit t o h = go (ltb limit (first (suc limit) (meets terms own))) refl h
+    where
+      x : ℕ
+      x = first (suc limit) (meets terms own)
+
+      lowest : x ≤ limit → (u : ℕ) → 1 ≤ u → own + demand terms u ≤ u → x ≤ u
+      lowest l u s c =
+          let (v, k, e) = covered u u (omega arith) c in
+          dite (decLt v x)
+          (λ b.
+          let no1 = first-no (suc limit) (meets terms own) v b in
+          let z : _≡_ {A = Bool} false true = sym no1 ∙ meets-yes v (omega arith) e in
+          let y : _≡_ {A = ℕ} 0 1 = cc in
+          absurd (omega arith))
+          (λ b. omega arith)
+
+      go : (b : Bool) → ltb limit x ≡ b → cond b Missing (At x) ≡ At t → Least terms own t × (t ≤ limit)
+      go true e h = let z : _≡_ {A = ℕ} 0 1 = cc in absurd (omega arith)
+      go false e h =
+          let q : x ≡ t = cc in
+          let l : x ≤ limit = ltb-false limit x e in
+          let m = met x (first-yes (suc limit) (meets terms own) (omega arith)) in
+          rw (sym q) (record { some = m .0; same = m .1; below = lowest l }, l)
+
+  -- where there is none, no time up to the limit covers what is asked for within it
+  pub least-missing : (limit : ℕ) → 1 ≤ own → least terms own limit ≡ Missing → (u : ℕ) → 1 ≤ u → u ≤ limit → own + demand terms u ≤ u → ⊥
+  unfolding least
+  least-missing limit o h u s l c = go (ltb limit (first (suc limit) (meets terms own))) refl h
+    where
+      x : ℕ
+      x = first (suc limit) (meets terms own)
+
+      go : (b : Bool) → ltb limit x ≡ b → cond b Missing (At x) ≡ Missing → ⊥
+      go true e h =
+          let (v, k, f) = covered u u (omega arith) c in
+          let no1 = first-no (suc limit) (meets terms own) v (omega (arith, ltb-true limit x e)) in
+          let z : _≡_ {A = Bool} false true = sym no1 ∙ meets-yes v (omega arith) f in
+          let y : _≡_ {A = ℕ} 0 1 = cc in
+          absurd (omega arith)
+      go false e h = let z : _≡_ {A = ℕ} 0 1 = cc in absurd (omega arith)
+
+module _ (terms : List Term) (blocking limit t : ℕ) where
+  -- the bound of a length of at least 1 is the least time that covers what is asked for within it
+  pub bound-is : (len : ℕ) → 1 ≤ len → boundOf terms len blocking limit ≡ At t → Least terms (len + blocking) t × (t ≤ limit)
+  unfolding boundOf
+  bound-is len l h = least-is terms (len + blocking) limit t (omega arith) (rw (ne-eqb len 0 (λ e. omega arith)) at h)
+
+  pub bound-zero : boundOf terms 0 blocking limit ≡ At t → t ≡ 0
+  unfolding boundOf
+  bound-zero h = ap timeOf (sym h)
+
+  -- no bound is above its limit
+  pub bound-le : (len : ℕ) → boundOf terms len blocking limit ≡ At t → t ≤ limit
+  bound-le zero h = omega (arith, bound-zero h)
+  bound-le (suc len) h = bound-is (suc len) (omega arith) h .1
+
+  -- what is given is the bound, and not above the limit
+  pub bound-least : (len : ℕ) → boundOf terms len blocking limit ≡ At t → LeastBound terms len blocking t × (t ≤ limit)
+  bound-least len h =
+      (record { none = λ e. bound-zero (rw e at h); some = λ l. bound-is len l h .0 }, bound-le len h)
+
+  -- and a bound that is not above the limit is given
+  bound-given : (len : ℕ) → LeastBound terms len blocking t → t ≤ limit → boundOf terms len blocking limit ≡ At t
+  unfolding boundOf
+  bound-given zero b l = ap At (sym (b .none refl))
+  bound-given (suc len) b l =
+      let x : Least terms (suc len + blocking) t = b .some (omega arith) in
+      let r : Rising terms (suc len + blocking) t = record { up = omega (arith, x .same); under = λ u c. x .below u (omega arith) c } in
+      rw (ne-eqb (suc len) 0 (λ e. omega arith)) (least-at terms (suc len + blocking) limit t (x .some) l r (x .same))
+
+  -- a bound is given exactly when it is at most the limit
+  pub bound-exactly : (len : ℕ) → (boundOf terms len blocking limit ≡ At t) ↔ (LeastBound terms len blocking t × (t ≤ limit))
+  bound-exactly len = (bound-least len, λ (b, l). bound-given len b l)
+
+-- none is missing exactly when there is one that is at most the limit
+pub bound-there : (terms : List Term) (len blocking limit : ℕ) → (isMissing (boundOf terms len blocking limit) ≡ false) ↔ ((t : ℕ) × LeastBound terms len blocking t × (t ≤ limit))
+bound-there terms len blocking limit = (
+  (λ h. go (boundOf terms len blocking limit) refl h),
+  λ (t, b, l). ap isMissing (bound-exactly terms blocking limit t len .1 (b, l)),
+)
+  where
+    go : (b : Bound) → boundOf terms len blocking limit ≡ b → isMissing b ≡ false → (t : ℕ) × LeastBound terms len blocking t × (t ≤ limit)
+    go (At t) e h =
+        let (b, l) = bound-least terms blocking limit t len e in
+        (t, b, l)
+    go Missing e h = let z : _≡_ {A = ℕ} 0 1 = cc in absurd (omega arith)

@@ -1,0 +1,4 @@
+pub mod Ordered
+pub mod Trials
+pub mod Covers
+pub mod Exactly

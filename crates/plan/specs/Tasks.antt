@@ -1,0 +1,41 @@
+-- The tasks of a table, numbered by rank, and what every trial needs, worked out once.
+use Prim.Native.Nat.{ℕ, _+_}
+use mathlib.Core.List.{List}
+use lib.ListN.{getD}
+use Rattle.lists.specs.Tab.{filled}
+use Rattle.rank.specs.Order.{inRank, numbersTo}
+use Rattle.table.specs.declared.Table.{Table}
+use Rattle.spread.specs.Weight.{weightsOf, usedOf, heaviestOf}
+use Rattle.plan.specs.declared.Tasks.{Tasks}
+
+-- C1 + C2 of each of n tasks
+abbrev pub worksOf : List ℕ → List ℕ → ℕ → List ℕ
+worksOf c1s c2s n = filled 64 0 n (λ k. getD c1s k 0 + getD c2s k 0)
+
+-- what each of n tasks' resource has: its ceiling, or the processor that serves it
+abbrev pub ofResource : List ℕ → List ℕ → ℕ → List ℕ
+ofResource values resources n = filled 64 0 n (λ k. getD values (getD resources k 0) 0)
+
+-- the tasks of a table whose resources have these weights
+unfoldable pub weighed : Table → List ℕ → Tasks
+weighed t weights =
+    record {
+      n = t .n;
+      m = t .m;
+      npp = t .npp;
+      period = inRank (t .rank) (t .n) (t .period);
+      c1 = inRank (t .rank) (t .n) (t .c1);
+      a = inRank (t .rank) (t .n) (t .a);
+      c2 = inRank (t .rank) (t .n) (t .c2);
+      work = worksOf (inRank (t .rank) (t .n) (t .c1)) (inRank (t .rank) (t .n) (t .c2)) (t .n);
+      resource = inRank (t .rank) (t .n) (t .resource);
+      top = ofResource (t .ceiling) (inRank (t .rank) (t .n) (t .resource)) (t .n);
+      row = inRank (t .rank) (t .n) (numbersTo (t .n));
+      rank = t .rank;
+      weight = weights;
+      heaviest = heaviestOf weights;
+      used = usedOf weights;
+    }
+
+unfoldable pub tasksOf : Table → Tasks
+tasksOf t = weighed t (weightsOf (t .period) (t .a) (t .resource) (t .n))

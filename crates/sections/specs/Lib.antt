@@ -1,0 +1,3 @@
+pub mod Blocking
+pub mod Section
+pub mod Good

@@ -1,0 +1,2 @@
+pub mod Fitting
+pub mod Placing

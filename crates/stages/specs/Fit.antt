@@ -1,0 +1,40 @@
+-- "A task fits a processor when D1, D2 exist with D1 + S + D2 ≤ T."
+use Prim.Native.Nat.{ℕ, _+_, _-_}
+use mathlib.Core.List.{List}
+use mathlib.Core.Bool.{Bool, true, false, cond}
+use lib.Dec.{ltb}
+use Rattle.lists.specs.First.{first}
+use Rattle.bounds.specs.Demand.{Term}
+use Rattle.bounds.specs.Bound.{boundOf}
+use Rattle.bounds.specs.declared.Bound.{Bound}
+use Rattle.bounds.specs.declared.Bound.the-variants.{At, Missing}
+use Rattle.stages.specs.declared.Fit.{Fit}
+use Rattle.stages.specs.declared.Fit.the-variants.{Fits, Not}
+use Rattle.stages.specs.declared.Place.{Place}
+use Rattle.stages.specs.declared.Place.the-variants.{On, Nowhere}
+
+-- the two bounds, of a task with this section bound and this period
+unfoldable pub fitOf : Bound → Bound → ℕ → ℕ → Fit
+fitOf (At d1) (At d2) section period = cond (ltb period (d1 + section + d2)) Not (Fits d1 d2)
+fitOf (At d1) Missing section period = Not
+fitOf Missing b section period = Not
+
+-- "Stage bounds D1 and D2: the same with C1 (or C2) in place of A, no B"; a bound above T - S would leave no room for it
+unfoldable pub fitAmong : List Term → ℕ → ℕ → ℕ → ℕ → Fit
+fitAmong terms c1 c2 section period = fitOf (boundOf terms c1 0 (period - section)) (boundOf terms c2 0 (period - section)) section period
+
+abbrev pub isFit : Fit → Bool
+isFit (Fits d1 d2) = true
+isFit Not = false
+
+-- the processor, from `from` on, `count` of them, that is the first with a fit; the one behind them if there is none
+abbrev pub firstFit : (ℕ → Fit) → ℕ → ℕ → ℕ
+firstFit fit from count = from + first count (λ q. isFit (fit (from + q)))
+
+unfoldable pub placeWith : ℕ → Fit → Place
+placeWith p (Fits d1 d2) = On p d1 d2
+placeWith p Not = Nowhere
+
+-- "the lowest-numbered application processor that it fits": of s + 1 to m
+unfoldable pub placeAmong : (ℕ → Fit) → ℕ → ℕ → Place
+placeAmong fit s m = cond (ltb m (firstFit fit (s + 1) (m - s))) Nowhere (placeWith (firstFit fit (s + 1) (m - s)) (fit (firstFit fit (s + 1) (m - s))))
