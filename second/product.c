@@ -4,11 +4,14 @@
    that. So this program links the archive, tools/run runs it on either, and the Rust half
    (src/product.rs) asks it over pipes until the input ends.
 
-   Request: a byte that names the function, a byte of flags, a length in 8 bytes, and that many
-   bytes. Function 'r' is kieferntuch_read. Flag 1 lends a null pointer, with length 0 alone.
-   Answer: number, names and mark, 4 bytes each. All numbers have their lowest byte first.
+   Request: a byte that names the function, a byte of flags, the table's length and its bytes.
+   Function 'r' is kieferntuch_read. Its answer: number, names and mark, 4 bytes each.
+   Function 'p' is kieferntuch_plan. In its request follow the number `at`, the sheet's length and
+   its bytes; in its answer follow the sheet's bytes as the call has left them.
+   Flag 1 lends the table by a null pointer, flag 2 the sheet, with length 0 alone. Lengths and `at`
+   have 8 bytes. All numbers have their lowest byte first.
 
-   The bytes of a request lie in a buffer of exactly their length, made for it alone, so that a read
+   What is lent lies in buffers of exactly its length, made for the request alone, so that a read
    past the end has a chance to be seen. An answer is written at once, so that a crash takes none of
    the earlier ones with it.
 
@@ -23,9 +26,15 @@ ptrdiff_t write(int file, const void *bytes, size_t count);
 void *malloc(size_t count);
 void free(void *bytes);
 
-enum { HEADER = 10, ANSWER = 12 };
-enum { LEND_NULL = 1 };
+enum { HEADER = 2, NUMBER = 8, ANSWER = 12 };
+enum { NULL_TABLE = 1, NULL_SHEET = 2 };
 enum { GOOD = 0, BROKEN = 1, FAILED = 2 };
+
+/* Bytes to lend to a function. */
+typedef struct {
+    uint8_t *bytes;
+    size_t length;
+} lent;
 
 /* How many of `count` bytes came before the input ended; -1 if it could not be read. */
 static ptrdiff_t take(uint8_t *bytes, size_t count)
@@ -54,12 +63,15 @@ static int put(const uint8_t *bytes, size_t count)
     return GOOD;
 }
 
-static size_t length_at(const uint8_t *bytes)
+static int take_number(size_t *number)
 {
-    size_t length = 0;
-    for (int place = 7; place >= 0; place--)
-        length = length << 8 | bytes[place];
-    return length;
+    uint8_t bytes[NUMBER];
+    if (take(bytes, NUMBER) != NUMBER)
+        return BROKEN;
+    *number = 0;
+    for (int place = NUMBER - 1; place >= 0; place--)
+        *number = *number << 8 | bytes[place];
+    return GOOD;
 }
 
 static void number_to(uint8_t *bytes, uint32_t number)
@@ -77,40 +89,58 @@ static int put_answer(kieferntuch_answer answer)
     return put(bytes, ANSWER);
 }
 
-/* Calls the function that has this name, if there is one, and answers. */
-static int call(uint8_t function, const uint8_t *bytes, size_t length)
+/* Takes a length and as many bytes, or a length of 0 for a null pointer; to be freed in any case. */
+static int take_lent(lent *lent, int null)
 {
-    switch (function) {
-    case 'r':
-        return put_answer(kieferntuch_read(bytes, length));
-    default:
+    lent->bytes = NULL;
+    if (take_number(&lent->length) != GOOD)
         return BROKEN;
-    }
+    if (null)
+        return lent->length == 0 ? GOOD : BROKEN;
+    lent->bytes = malloc(lent->length);
+    if (lent->bytes == NULL && lent->length > 0)
+        return FAILED;
+    return take(lent->bytes, lent->length) == (ptrdiff_t)lent->length ? GOOD : BROKEN;
 }
 
-/* Serves a request that lends bytes of its own. */
-static int serve_bytes(uint8_t function, size_t length)
+/* The rest of a request to plan, and its answer. */
+static int serve_plan(const lent *table, int null_sheet)
 {
-    uint8_t *bytes = malloc(length);
-    if (bytes == NULL && length > 0)
-        return FAILED;
-    int status = BROKEN;
-    if (take(bytes, length) == (ptrdiff_t)length)
-        status = call(function, bytes, length);
-    free(bytes);
+    size_t at;
+    lent sheet;
+    if (take_number(&at) != GOOD)
+        return BROKEN;
+    int status = take_lent(&sheet, null_sheet);
+    if (status == GOOD)
+        status = put_answer(kieferntuch_plan(table->bytes, table->length, at, sheet.bytes, sheet.length));
+    if (status == GOOD)
+        status = put(sheet.bytes, sheet.length);
+    free(sheet.bytes);
     return status;
+}
+
+/* Calls the function that has this name, if there is one, and answers. */
+static int call(uint8_t function, uint8_t flags, const lent *table)
+{
+    if (function == 'r' && (flags & NULL_SHEET) == 0)
+        return put_answer(kieferntuch_read(table->bytes, table->length));
+    if (function == 'p')
+        return serve_plan(table, flags & NULL_SHEET);
+    return BROKEN;
 }
 
 static int serve(const uint8_t *header)
 {
     uint8_t function = header[0];
     uint8_t flags = header[1];
-    size_t length = length_at(header + 2);
-    if (flags == 0)
-        return serve_bytes(function, length);
-    if (flags == LEND_NULL && length == 0)
-        return call(function, NULL, 0);
-    return BROKEN;
+    lent table;
+    if (flags > (NULL_TABLE | NULL_SHEET))
+        return BROKEN;
+    int status = take_lent(&table, flags & NULL_TABLE);
+    if (status == GOOD)
+        status = call(function, flags, &table);
+    free(table.bytes);
+    return status;
 }
 
 int main(void)

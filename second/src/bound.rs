@@ -17,7 +17,7 @@ pub fn demand(own: u64, terms: &[Term], t: u64) -> u64 {
 }
 
 /// The longest limit up to which every t is tried.
-const QUICK: u64 = 2_000;
+const QUICK: u64 = 200;
 
 /// "the least t ≥ 1 for which [the demand] equals t", none if it is above the limit.
 pub fn least(own: u64, terms: &[Term], limit: u64) -> Option<u64> {
@@ -35,7 +35,8 @@ pub fn by_trying(own: u64, terms: &[Term], limit: u64) -> Option<u64> {
 
 /// The second way. From behind one multiple of a period up to and with the next multiple of any
 /// of them, the demand is one and the same number; that number is then the only t in there that
-/// can be equal to its demand.
+/// can be equal to its demand. As t grows the demand never falls, so that no t below that number
+/// and behind the multiple can be equal to its demand either.
 pub fn by_walking(own: u64, terms: &[Term], limit: u64) -> Option<u64> {
     let mut low = 0;
     while low < limit {
@@ -44,11 +45,11 @@ pub fn by_walking(own: u64, terms: &[Term], limit: u64) -> Option<u64> {
         if low < same && same <= high {
             return Some(same);
         }
-        // The demand never falls as t grows: from here on it stays above every t allowed.
+        // From here on it stays above every t allowed.
         if same > limit {
             return None;
         }
-        low = high;
+        low = high.max(same - 1);
     }
     None
 }

@@ -2,7 +2,9 @@
 //! A further one is a further line in COMPARISONS.
 
 mod list;
+mod plan;
 mod reader;
+mod tally;
 
 use crate::checks::hex;
 use crate::options::Options;
@@ -11,7 +13,7 @@ use crate::product::Product;
 /// Compares one thing; hands back lines that sum up, or what does not agree.
 type Comparison = fn(&Options, &mut Product) -> Result<Vec<String>, String>;
 
-const COMPARISONS: [Comparison; 2] = [reader::compare, list::compare];
+const COMPARISONS: [Comparison; 3] = [reader::compare, plan::compare, list::compare];
 
 /// Makes every comparison, up to the first mismatch.
 pub fn all(options: &Options, mut product: Product) -> Result<(), String> {

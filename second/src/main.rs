@@ -3,8 +3,6 @@
 //!
 //!     second list  < TABLE
 //!         Plans the table on standard input and prints the paper's listing, or its refused line.
-//!     second table < TABLE
-//!         Prints what stands in the table, with ceilings and ranks, or its refused line.
 //!     second run TABLE ARRIVALS F W
 //!         Runs the table in the file TABLE. The file ARRIVALS has a line `tick row l1 l2 l3` for
 //!         each arrival; # begins a comment. Prints a lane for each processor over the W ticks
@@ -13,19 +11,26 @@
 //!         Holds the paper's own figures and checks this program against itself.
 //!     second compare --product COMMAND [--list COMMAND] [--seed N] [--inputs N]
 //!         The same, and then compares the product with this program: its reader on N inputs or
-//!         more, and its listing program, if one is given, on some 400. A COMMAND is a path, or
-//!         words separated by spaces. Both programs are x86-64 code, so after second/build it is
+//!         more, its planner on some 210,000, and its listing program, if one is given, on some
+//!         1,000. A COMMAND is a path, or words separated by spaces. Both programs are x86-64 code,
+//!         so after second/build it is
 //!         --product "tools/run target/second/product" --list "tools/run target/bin/list"
 //!         in the repository's root.
+//!     second bench --half COMMAND [--half COMMAND ..] [--seed N]
+//!         Times the product's planner beside the one in fast.rs, on tables that are planned and on
+//!         tables that are refused. second/bench/build makes the programs that do so, for either
+//!         processor; second/bench/run builds them and times both planners.
 //!
 //! A seed makes the random inputs the same again; without one it comes from the clock. The exit
 //! code is 0, or 1 if a figure, a check or a comparison fails, or 2 if the call makes no sense.
 
 mod answer;
+mod bench;
 mod bits;
 mod bound;
 mod checks;
 mod compare;
+mod fast;
 mod inputs;
 mod lanes;
 mod listing;
@@ -41,6 +46,7 @@ mod raw;
 mod run;
 mod sheet;
 mod table;
+mod workloads;
 
 use options::Options;
 use product::Product;
@@ -48,10 +54,10 @@ use std::io::{self, Read, Write};
 use std::process::ExitCode;
 
 const USAGE: &str = "usage: second list < TABLE
-       second table < TABLE
        second run TABLE ARRIVALS F W
        second paper [--seed N]
-       second compare --product COMMAND [--list COMMAND] [--seed N] [--inputs N]";
+       second compare --product COMMAND [--list COMMAND] [--seed N] [--inputs N]
+       second bench --half COMMAND [--half COMMAND ..] [--seed N]";
 
 /// Why a command ended without success.
 enum Trouble {
@@ -80,7 +86,6 @@ fn main() -> ExitCode {
 fn command(words: &[&str]) -> Result<(), Trouble> {
     match words {
         ["list"] => print(&listing::list(&standard_input()?)),
-        ["table"] => print(&listing::contents(&standard_input()?)),
         ["run", table, arrivals, f, w] => run_files(table, arrivals, f, w),
         ["paper", rest @ ..] => {
             let options = Options::read(rest, &["--seed"]).ok_or_else(usage)?;
@@ -90,6 +95,10 @@ fn command(words: &[&str]) -> Result<(), Trouble> {
             let known = ["--product", "--list", "--seed", "--inputs"];
             let options = Options::read(rest, &known).ok_or_else(usage)?;
             compare_product(&options)
+        }
+        ["bench", rest @ ..] => {
+            let options = Options::read(rest, &["--half", "--seed"]).ok_or_else(usage)?;
+            time_planners(&options)
         }
         _ => Err(usage()),
     }
@@ -151,4 +160,12 @@ fn compare_product(options: &Options) -> Result<(), Trouble> {
         let seed = options.seed;
         Trouble::Fails(format!("seed {seed}\n{mismatch}"))
     })
+}
+
+fn time_planners(options: &Options) -> Result<(), Trouble> {
+    if options.halves.is_empty() {
+        return Err(usage());
+    }
+    println!("seed {}", options.seed);
+    bench::bench(options).map_err(Trouble::Fails)
 }

@@ -1,4 +1,4 @@
-//! The options behind `second paper` and `second compare`.
+//! The options behind `second paper`, `second compare` and `second bench`.
 
 use std::time::{SystemTime, UNIX_EPOCH};
 
@@ -10,6 +10,8 @@ pub struct Options {
     pub product: Option<String>,
     /// The command of the product's listing program.
     pub list: Option<String>,
+    /// The commands that start the programs which time the planners, `bench/half.c`.
+    pub halves: Vec<String>,
 }
 
 impl Options {
@@ -20,6 +22,7 @@ impl Options {
             inputs: 400_000,
             product: None,
             list: None,
+            halves: Vec::new(),
         };
         for pair in words.chunks(2) {
             match pair {
@@ -28,6 +31,7 @@ impl Options {
                 ["--inputs", value] => options.inputs = value.parse().ok()?,
                 ["--product", value] => options.product = Some(value.to_string()),
                 ["--list", value] => options.list = Some(value.to_string()),
+                ["--half", value] => options.halves.push(value.to_string()),
                 _ => return None,
             }
         }

@@ -4,23 +4,28 @@
 
 use crate::answer::Refusal;
 use crate::program;
-use std::io::{BufReader, Read, Write};
+use std::io::{ErrorKind, Read, Write};
 use std::process::{Child, Stdio};
-use std::sync::mpsc::{self, Receiver, Sender, SyncSender};
+use std::sync::mpsc::{self, Receiver, RecvTimeoutError, Sender, SyncSender};
 use std::thread;
 use std::time::Duration;
 
 /// How many requests are sent before their answers are read.
 pub const BATCH: usize = 256;
-/// How long an answer may take.
+/// How long the product may say nothing.
 const PATIENCE: Duration = Duration::from_secs(30);
 const ANSWER_BYTES: usize = 12;
+/// As many bytes of answers are read at once, and so many parts may wait to be taken.
+const PART_BYTES: usize = 1 << 16;
+const PARTS: usize = 64;
 
-/// The name of kieferntuch_read.
+/// The names of kieferntuch_read and kieferntuch_plan.
 const READ: u8 = b'r';
-/// Flags: none, or lend a null pointer.
+const PLAN: u8 = b'p';
+/// Flags: none, or lend the table or the sheet by a null pointer.
 const PLAIN: u8 = 0;
-const LEND_NULL: u8 = 1;
+const NULL_TABLE: u8 = 1;
+const NULL_SHEET: u8 = 2;
 
 /// The product's process. A thread writes the requests and another reads the answers, so that a
 /// product that stops reading, or answers too much or too little, is seen and not waited for.
@@ -28,13 +33,21 @@ pub struct Product {
     process: Child,
     /// None once there are no more.
     requests: Option<Sender<Vec<u8>>>,
-    answers: Receiver<Said>,
+    /// Parts of answers, cut anywhere; closed when the product has ended its output.
+    parts: Receiver<Vec<u8>>,
+    /// What has been heard and not taken yet.
+    heard: Vec<u8>,
 }
 
-enum Said {
-    Answer([u8; ANSWER_BYTES]),
-    /// The end, with this many bytes of a further answer in front of it.
-    End(usize),
+/// What kieferntuch_plan is handed.
+#[derive(Clone, Debug)]
+pub struct Call {
+    pub table: Vec<u8>,
+    pub at: usize,
+    pub sheet: Vec<u8>,
+    /// What is empty may be lent by a null pointer.
+    pub null_table: bool,
+    pub null_sheet: bool,
 }
 
 impl Product {
@@ -45,14 +58,15 @@ impl Product {
             .spawn()
             .map_err(|why| why.to_string())?;
         let (requests, to_send) = mpsc::channel();
-        let (to_hear, answers) = mpsc::sync_channel(2 * BATCH);
+        let (to_hear, parts) = mpsc::sync_channel(PARTS);
         let (input, output) = (process.stdin.take(), process.stdout.take());
         thread::spawn(move || input.map(|pipe| send(pipe, to_send)));
         thread::spawn(move || output.map(|pipe| hear(pipe, to_hear)));
         Ok(Product {
             process,
             requests: Some(requests),
-            answers,
+            parts,
+            heard: Vec::new(),
         })
     }
 
@@ -64,7 +78,12 @@ impl Product {
 
     /// Asks for the empty table to be read, lent by a null pointer; one answer follows.
     pub fn ask_to_read_null(&mut self) {
-        self.ask(frame(READ, LEND_NULL, &[]));
+        self.ask(frame(READ, NULL_TABLE, &[]));
+    }
+
+    /// Makes each of the calls; as many answers follow, each with its sheet.
+    pub fn ask_to_plan(&mut self, calls: &[Call]) {
+        self.ask(calls.iter().flat_map(plan_frame).collect());
     }
 
     fn ask(&mut self, frames: Vec<u8>) {
@@ -74,30 +93,62 @@ impl Product {
         }
     }
 
-    /// The next answer: a good table, or the refusal as the product puts it, whatever stands in it.
+    /// The next answer: no refusal, or the refusal as the product puts it, whatever stands in it.
     /// An error if the product does not answer.
     pub fn answer(&mut self) -> Result<Result<(), Refusal>, String> {
-        match self.answers.recv_timeout(PATIENCE) {
-            Ok(Said::Answer(bytes)) => Ok(outcome(bytes)),
-            Ok(Said::End(part)) => Err(self.ended(part)),
-            Err(_) => Err(format!("no answer in {PATIENCE:?}")),
+        let bytes = self.take(ANSWER_BYTES)?;
+        let part = |at: usize| u32::from_le_bytes([0, 1, 2, 3].map(|place| bytes[at + place]));
+        Ok(match (part(0), part(4), part(8)) {
+            (0, 0, 0) => Ok(()),
+            (number, names, mark) => Err(Refusal {
+                number,
+                names,
+                mark,
+            }),
+        })
+    }
+
+    /// The sheet behind an answer, of so many bytes.
+    pub fn sheet(&mut self, length: usize) -> Result<Vec<u8>, String> {
+        self.take(length)
+    }
+
+    /// The next bytes of answers.
+    fn take(&mut self, count: usize) -> Result<Vec<u8>, String> {
+        while self.heard.len() < count {
+            match self.parts.recv_timeout(PATIENCE) {
+                Ok(part) => self.heard.extend(part),
+                Err(RecvTimeoutError::Disconnected) => return Err(self.ended(count)),
+                Err(RecvTimeoutError::Timeout) => return Err(format!("no answer in {PATIENCE:?}")),
+            }
         }
+        let rest = self.heard.split_off(count);
+        Ok(std::mem::replace(&mut self.heard, rest))
     }
 
     /// No more requests: the product has to end in success, and to have said nothing more.
     pub fn finish(mut self) -> Result<(), String> {
         self.requests = None;
-        match self.answers.recv_timeout(PATIENCE) {
-            Ok(Said::End(0)) if self.ending() == "exit status: 0" => Ok(()),
-            Ok(Said::End(part)) => Err(self.ended(part)),
-            Ok(Said::Answer(_)) => Err("an answer that nobody asked for".to_string()),
-            Err(_) => Err(format!("no end in {PATIENCE:?}")),
+        if self.heard.is_empty() {
+            match self.parts.recv_timeout(PATIENCE) {
+                Ok(part) => self.heard = part,
+                Err(RecvTimeoutError::Disconnected) => return self.in_success(),
+                Err(RecvTimeoutError::Timeout) => return Err(format!("no end in {PATIENCE:?}")),
+            }
+        }
+        Err("an answer that nobody asked for".to_string())
+    }
+
+    fn in_success(&mut self) -> Result<(), String> {
+        match self.ending().as_str() {
+            "exit status: 0" => Ok(()),
+            other => Err(format!("the end ({other})")),
         }
     }
 
-    fn ended(&mut self, part: usize) -> String {
-        let ending = self.ending();
-        format!("{part} of an answer's {ANSWER_BYTES} bytes, and then the end ({ending})")
+    fn ended(&mut self, wanted: usize) -> String {
+        let (part, ending) = (self.heard.len(), self.ending());
+        format!("{part} of {wanted} bytes, and then the end ({ending})")
     }
 
     /// How the process ended; it has a second to do so.
@@ -130,42 +181,36 @@ fn send(mut pipe: impl Write, requests: Receiver<Vec<u8>>) {
 }
 
 /// Hands on answers until there are no more or nobody wants them.
-fn hear(pipe: impl Read, answers: SyncSender<Said>) {
-    let mut pipe = BufReader::new(pipe);
+fn hear(mut pipe: impl Read, parts: SyncSender<Vec<u8>>) {
+    let mut bytes = vec![0; PART_BYTES];
     loop {
-        let said = next(&mut pipe);
-        let last = matches!(said, Said::End(_));
-        if answers.send(said).is_err() || last {
-            return;
+        match pipe.read(&mut bytes) {
+            Err(why) if why.kind() == ErrorKind::Interrupted => {}
+            // A pipe that cannot be read has ended.
+            Ok(0) | Err(_) => return,
+            Ok(count) if parts.send(bytes[..count].to_vec()).is_err() => return,
+            Ok(_) => {}
         }
     }
 }
 
-fn next(pipe: &mut impl Read) -> Said {
-    let mut bytes = Vec::with_capacity(ANSWER_BYTES);
-    // A pipe that cannot be read has ended.
-    let _ = pipe.take(ANSWER_BYTES as u64).read_to_end(&mut bytes);
-    match bytes.as_slice().try_into() {
-        Ok(answer) => Said::Answer(answer),
-        Err(_) => Said::End(bytes.len()),
-    }
+/// A function's name, its flags, and the table that it is lent.
+fn frame(function: u8, flags: u8, table: &[u8]) -> Vec<u8> {
+    [&[function, flags], number(table.len()).as_slice(), table].concat()
 }
 
-fn frame(function: u8, flags: u8, bytes: &[u8]) -> Vec<u8> {
-    let length = (bytes.len() as u64).to_le_bytes();
-    [&[function, flags], length.as_slice(), bytes].concat()
+fn plan_frame(call: &Call) -> Vec<u8> {
+    let null_table = u8::from(call.null_table) * NULL_TABLE;
+    let null_sheet = u8::from(call.null_sheet) * NULL_SHEET;
+    let mut bytes = frame(PLAN, null_table | null_sheet, &call.table);
+    bytes.extend(number(call.at));
+    bytes.extend(number(call.sheet.len()));
+    bytes.extend(&call.sheet);
+    bytes
 }
 
-fn outcome(answer: [u8; ANSWER_BYTES]) -> Result<(), Refusal> {
-    let part = |at: usize| u32::from_le_bytes([0, 1, 2, 3].map(|place| answer[at + place]));
-    match (part(0), part(4), part(8)) {
-        (0, 0, 0) => Ok(()),
-        (number, names, mark) => Err(Refusal {
-            number,
-            names,
-            mark,
-        }),
-    }
+fn number(number: usize) -> [u8; 8] {
+    (number as u64).to_le_bytes()
 }
 
 #[cfg(test)]
@@ -190,14 +235,39 @@ mod tests {
     }
 
     #[test]
+    fn a_request_to_plan() -> Result<(), String> {
+        let mut echo = Product::start("cat")?;
+        let call = Call {
+            table: vec![7; 3],
+            at: usize::MAX - 1,
+            sheet: vec![8; 2],
+            null_table: false,
+            null_sheet: true,
+        };
+        echo.ask_to_plan(&[call]);
+        let wanted = [
+            &[b'p', 2, 3, 0, 0, 0, 0, 0, 0, 0, 7, 7, 7, 0xfe][..],
+            &[0xff; 7],
+            &[2, 0, 0, 0, 0, 0, 0, 0, 8, 8],
+        ];
+        assert_eq!(echo.sheet(31)?, wanted.concat());
+        echo.finish()
+    }
+
+    #[test]
     fn too_little_and_too_much() -> Result<(), String> {
         let mut echo = Product::start("cat")?;
         echo.ask_to_read_null();
-        let error = echo.finish().expect_err("ten bytes more");
-        assert!(error.starts_with("10 of"), "{error}");
-        let mut echo = Product::start("cat")?;
-        echo.ask_to_read(&[vec![0; 2]]);
         assert!(echo.finish().is_err());
+        let mut echo = Product::start("cat")?;
+        echo.ask_to_read(&[vec![0; 3]]);
+        assert!(echo.answer().is_ok());
+        assert!(echo.finish().is_err());
+        let mut cut = Product::start("head -c 17")?;
+        cut.ask_to_read(&vec![vec![0; 2]; 2]);
+        assert!(cut.answer().is_ok());
+        let error = cut.answer().expect_err("half of an answer");
+        assert!(error.starts_with("5 of 12"), "{error}");
         Ok(())
     }
 

@@ -1,0 +1,222 @@
+//! `second bench`: the product's planner and the one in fast.rs, timed in one process. The program
+//! that does so is `bench/half.c`, which says how; here the tables are made, and what it says is
+//! read. Both planners' answers and sheets have to be the plain planner's.
+
+use crate::answer::Refusal;
+use crate::checks::hex;
+use crate::fast;
+use crate::options::Options;
+use crate::program;
+use crate::random::Random;
+use crate::sheet::plan_into;
+use crate::workloads::largest;
+
+/// The tables of a group, and how often each planner goes over them.
+const TABLES: usize = 400;
+const ROUNDS: usize = 25;
+/// A group for each outcome.
+const GROUPS: [&str; 3] = [
+    "planned",
+    "refused 11 with mark 1",
+    "refused 11 with mark 2",
+];
+const SHEET_BYTES: usize = 12 + 9 * 64;
+const UNTOUCHED: u8 = 0xee;
+
+/// The plain planner's answer, and its sheet.
+type Outcome = (Result<(), Refusal>, Vec<u8>);
+
+struct Group {
+    name: &'static str,
+    tables: Vec<Vec<u8>>,
+    outcomes: Vec<Outcome>,
+}
+
+/// Prints what was measured; an error if a planner errs, or if a half cannot be run.
+pub fn bench(options: &Options) -> Result<(), String> {
+    let groups = groups(&mut Random::new(options.seed, "bench"), TABLES);
+    println!(
+        "whole calls, from a table's bytes to a written sheet; 64 rows, 16 processors; one sheet for \
+         all calls, not cleared; {ROUNDS} rounds; processor time in microseconds a table"
+    );
+    for command in &options.halves {
+        for (place, group) in groups.iter().enumerate() {
+            let input = input(group);
+            let output =
+                program::output(command, &input).map_err(|why| format!("{command}: {why}"))?;
+            if !output.status.success() {
+                return Err(format!("{command}: {}", output.status));
+            }
+            let told = |why| format!("{command}: {}: {why}", group.name);
+            let said = said(&output.stdout, group).map_err(told)?;
+            if place == 0 {
+                println!("{}", said.how);
+            }
+            println!("{}", said.line(group));
+        }
+    }
+    Ok(())
+}
+
+/// So many tables for each group.
+fn groups(random: &mut Random, count: usize) -> [Group; GROUPS.len()] {
+    let mut groups = GROUPS.map(|name| Group {
+        name,
+        tables: Vec::new(),
+        outcomes: Vec::new(),
+    });
+    while groups.iter().any(|group| group.tables.len() < count) {
+        let table = largest(random);
+        // It only says where the table belongs; the plain planner is slow.
+        let mark = fast::plan_into(&table, 0, &mut [0; SHEET_BYTES]).mark;
+        let group = &mut groups[mark as usize];
+        if group.tables.len() < count {
+            let mut sheet = vec![UNTOUCHED; SHEET_BYTES];
+            let answer = plan_into(&table, &mut sheet, 0).map(|_| ());
+            group.tables.push(table);
+            group.outcomes.push((answer, sheet));
+        }
+    }
+    groups
+}
+
+fn input(group: &Group) -> Vec<u8> {
+    let number = |number: usize| (number as u64).to_le_bytes();
+    let mut bytes = [group.tables.len(), ROUNDS, SHEET_BYTES]
+        .map(number)
+        .concat();
+    for table in &group.tables {
+        bytes.extend(number(table.len()));
+        bytes.extend(table);
+    }
+    bytes
+}
+
+/// What a half says of a group.
+struct Said {
+    how: String,
+    /// Nanoseconds of each round, the fastest first.
+    product: Vec<u64>,
+    rust: Vec<u64>,
+}
+
+impl Said {
+    fn line(&self, group: &Group) -> String {
+        let micros = |nanos: u64| nanos as f64 / 1_000.0 / group.tables.len() as f64;
+        let measured = |place: usize| {
+            let (product, rust) = (micros(self.product[place]), micros(self.rust[place]));
+            let ratio = product / rust;
+            format!("product {product:.2}, Rust {rust:.2}, product/Rust {ratio:.2}")
+        };
+        let (name, count) = (group.name, group.tables.len());
+        let (best, median) = (measured(0), measured(ROUNDS / 2));
+        format!("{name}, {count} tables: best {best}; median {median}")
+    }
+}
+
+fn said(output: &[u8], group: &Group) -> Result<Said, String> {
+    let mut rest = output;
+    let length = u64::from_le_bytes(array(&mut rest)?) as usize;
+    let how = String::from_utf8_lossy(part(&mut rest, length)?).to_string();
+    let (mut product, mut rust) = (Vec::new(), Vec::new());
+    for _ in 0..ROUNDS {
+        product.push(u64::from_le_bytes(array(&mut rest)?));
+        rust.push(u64::from_le_bytes(array(&mut rest)?));
+    }
+    product.sort();
+    rust.sort();
+    for (table, outcome) in group.tables.iter().zip(&group.outcomes) {
+        for planner in ["product", "Rust"] {
+            if answered(&mut rest)? != *outcome {
+                return Err(format!("{planner}: another answer for {}", hex(table)));
+            }
+        }
+    }
+    match rest {
+        [] => Ok(Said { how, product, rust }),
+        _ => Err("it says too much".to_string()),
+    }
+}
+
+fn answered(rest: &mut &[u8]) -> Result<Outcome, String> {
+    let number = u32::from_le_bytes(array(rest)?);
+    let names = u32::from_le_bytes(array(rest)?);
+    let mark = u32::from_le_bytes(array(rest)?);
+    let sheet = part(rest, SHEET_BYTES)?.to_vec();
+    let answer = match (number, names, mark) {
+        (0, 0, 0) => Ok(()),
+        _ => Err(Refusal {
+            number,
+            names,
+            mark,
+        }),
+    };
+    Ok((answer, sheet))
+}
+
+fn array<const N: usize>(rest: &mut &[u8]) -> Result<[u8; N], String> {
+    let bytes = part(rest, N)?;
+    bytes
+        .try_into()
+        .map_err(|_| "it says too little".to_string())
+}
+
+/// The first bytes of what is left, which are then no longer there.
+fn part<'a>(rest: &mut &'a [u8], count: usize) -> Result<&'a [u8], String> {
+    let all = *rest;
+    let too_little = || "it says too little".to_string();
+    let (first, behind) = all.split_at_checked(count).ok_or_else(too_little)?;
+    *rest = behind;
+    Ok(first)
+}
+
+#[cfg(test)]
+mod tests {
+    use super::*;
+
+    /// As a half would put it, if both planners were right.
+    fn right(group: &Group) -> Vec<u8> {
+        let mut bytes = [&[3, 0, 0, 0, 0, 0, 0, 0], &b"how"[..]].concat();
+        for round in (1..=2 * ROUNDS as u64).rev() {
+            bytes.extend((round * 1_000).to_le_bytes());
+        }
+        for (answer, sheet) in &group.outcomes {
+            let no = answer.err().unwrap_or(Refusal::plain(0));
+            let numbers = [no.number, no.names, no.mark].map(u32::to_le_bytes);
+            for _ in 0..2 {
+                bytes.extend(numbers.concat());
+                bytes.extend(sheet);
+            }
+        }
+        bytes
+    }
+
+    #[test]
+    fn what_a_half_says_is_read() {
+        for group in groups(&mut Random::new(1, "bench"), 2) {
+            let said = said(&right(&group), &group).expect("a right half");
+            assert_eq!(
+                (said.how.as_str(), said.product[0], said.rust[0]),
+                ("how", 2_000, 1_000)
+            );
+            let line = said.line(&group);
+            let wanted =
+                "2 tables: best product 1.00, Rust 0.50, product/Rust 2.00; median product 13.00";
+            assert!(line.contains(wanted), "{line}");
+        }
+    }
+
+    #[test]
+    fn a_wrong_half_is_seen() {
+        let [group, ..] = groups(&mut Random::new(2, "bench"), 2);
+        let right = right(&group);
+        let answers = 2 * group.tables.len() * (12 + SHEET_BYTES);
+        for place in right.len() - answers..right.len() {
+            let mut wrong = right.clone();
+            wrong[place] ^= 1;
+            assert!(said(&wrong, &group).is_err());
+        }
+        assert!(said(&right[..right.len() - 1], &group).is_err());
+        assert!(said(&[&right[..], &[0]].concat(), &group).is_err());
+    }
+}
