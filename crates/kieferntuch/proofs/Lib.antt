@@ -1,3 +1,4 @@
 pub mod Planned
 pub mod ReadBack
+pub mod Exactly
 mod Cases

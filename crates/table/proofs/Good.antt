@@ -16,7 +16,7 @@ use Rattle.table.specs.declared.Task.{Task}
 use Rattle.table.specs.declared.Reading.{Reading}
 use Rattle.table.specs.declared.RowRead.{RowRead}
 use Rattle.table.specs.declared.RowRead.the-variants.{Good, BadPeriod, BadResource, Disagree, BadSum}
-use Rattle.table.proofs.Laws.{judged-good, header-good}
+use Rattle.table.proofs.Laws.{judged-good, header-good, header-le}
 
 -- a row that has no refusal is good
 row-good : (w : List ℕ) → numberOf (rowOf w) ≡ 0 → GoodTask (taskOf w)
@@ -76,3 +76,24 @@ table-good bs r q z = go (ltb 0 (headerNumber bs)) refl q
     go false e q =
         let g = header-good bs (omega (arith, ltb-false 0 (headerNumber bs) e)) in
         rows-table bs (processorCount bs) (eqb (protocolBit bs) 1) g (g .processors) (ltb (firstBad bs (taskCount bs)) (taskCount bs)) refl r q z
+
+row-number-le : (r : RowRead) → numberOf r ≤ 9
+unfolding numberOf
+row-number-le (Good t) = omega arith
+row-number-le BadPeriod = omega arith
+row-number-le BadResource = omega arith
+row-number-le Disagree = omega arith
+row-number-le BadSum = omega arith
+
+-- no refusal of a table has a number above 9
+pub number-le : (bs : List ℕ) → readingOf bs .number ≤ 9
+unfolding readingOf rowsReading rowNumber
+number-le bs = go (ltb 0 (headerNumber bs)) (ltb (firstBad bs (taskCount bs)) (taskCount bs))
+  where
+    rows : Reading
+    rows = refusal (rowNumber bs (firstBad bs (taskCount bs))) (firstBad bs (taskCount bs) + 1)
+
+    go : (a b : Bool) → cond a (refusal (headerNumber bs) 0) (cond b rows (accepted (tableOf bs (taskCount bs) (processorCount bs) (eqb (protocolBit bs) 1)))) .number ≤ 9
+    go true b = omega (arith, header-le bs)
+    go false true = row-number-le (rowOf (rowBytes bs (firstBad bs (taskCount bs))))
+    go false false = omega arith

@@ -48,6 +48,19 @@ header-good bs h =
           whole = eqb-true (length bs) (2 + 11 * taskCount bs) (not-false _ e5);
         }
 
+-- no refusal of a header has a number above 5
+pub header-le : (bs : List ℕ) → headerNumber bs ≤ 5
+unfolding headerNumber
+header-le bs = go (ltb (length bs) 2) (outside (taskCount bs) 1 64) (outside (processorCount bs) 2 16) (ltb 0 (spareBits bs)) (not (eqb (length bs) (2 + 11 * taskCount bs)))
+  where
+    go : (b1 b2 b3 b4 b5 : Bool) → cond b1 1 (cond b2 2 (cond b3 3 (cond b4 4 (cond b5 5 0)))) ≤ 5
+    go true b2 b3 b4 b5 = omega arith
+    go false true b3 b4 b5 = omega arith
+    go false false true b4 b5 = omega arith
+    go false false false true b5 = omega arith
+    go false false false false true = omega arith
+    go false false false false false = omega arith
+
 or-left : (a b : Bool) → (a || b) ≡ false → a ≡ false
 or-left true b e = e
 or-left false b e = refl

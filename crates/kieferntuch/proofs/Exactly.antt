@@ -1,0 +1,83 @@
+-- When planning answers what: 0 exactly when one of the trials that the paper lists succeeds, 11 exactly when each of them fails.
+use Prim.Native.Nat.{ℕ, _+_, _*_, _≤_}
+use mathlib.Core.Path.{_≡_, refl, sym, _∙_}
+use mathlib.Core.List.{List}
+use mathlib.Core.Bool.{Bool, true, false, cond}
+use mathlib.Core.Logic.{_⊎_, inl, inr, ⊎-elim, _↔_}
+use native.Mathlib.Omega.{arith}
+use borrow.Author.Tests.{le-ltb, ltb-true, ltb-false}
+use lib.Dec.{ltb}
+use Rattle.table.specs.Table.{readingOf}
+use Rattle.table.proofs.Good.{table-good, number-le}
+use Rattle.plan.specs.declared.Tasks.{Tasks}
+use Rattle.plan.specs.declared.Outcome.{Outcome}
+use Rattle.plan.specs.declared.Outcome.the-variants.{Planned, Failed}
+use Rattle.plan.specs.Tasks.{weighed, tasksOf}
+use Rattle.plan.specs.Trial.{numberOf, trialOf}
+use Rattle.plan.specs.Planning.{firstTrial, lastTrial, plannedOf}
+use Rattle.plan.proofs.Exactly.{plan-exactly}
+use Rattle.kieferntuch.specs.Answer.{answer, answerOf, short, outcomeAnswer, planAnswer}
+
+-- one of the trials that the paper lists succeeds
+abbrev pub Succeeds : Tasks → Type 0
+Succeeds t = (s : ℕ) × (firstTrial t ≤ s) × (s ≤ lastTrial t) × (trialOf t s .outcome ≡ Planned)
+
+-- the bytes are a good table, and the sheet has room for its plan
+abbrev pub Ready : List ℕ → ℕ → ℕ → Type 0
+Ready bs at size = (readingOf bs .number ≡ 0) × (at + (12 + 9 * readingOf bs .table .n) ≤ size)
+
+found : (o : Outcome) → numberOf o ≡ 0 → o ≡ Planned
+unfolding numberOf
+found Planned e = refl
+found (Failed row mark) e = absurd (omega arith)
+
+failed : (o : Outcome) → (o ≡ Planned → ⊥) → numberOf o ≡ 11
+unfolding numberOf
+failed Planned h = absurd (h refl)
+failed (Failed row mark) h = refl
+
+planned-zero : (o : Outcome) → o ≡ Planned → numberOf o ≡ 0
+unfolding numberOf
+planned-zero o e = rw e
+
+module _ (bs : List ℕ) (at size : ℕ) where
+  abbrev out : Outcome
+  out = plannedOf (readingOf bs .table) .outcome
+
+  -- a good table that has room is answered by its outcome
+  ready : Ready bs at size → planAnswer (readingOf bs) at size .number ≡ numberOf out
+  unfolding planAnswer
+  ready (good, room) = rw (le-ltb 0 (readingOf bs .number) (omega arith), le-ltb size (at + (12 + 9 * readingOf bs .table .n)) room)
+
+  -- any other call is refused by 1 to 10
+  ready-by : (number : ℕ) → planAnswer (readingOf bs) at size .number ≡ number → (number ≡ 0) ⊎ (number ≡ 11) → Ready bs at size
+  unfolding planAnswer
+  ready-by number e h = go (ltb 0 (readingOf bs .number)) (short size at (readingOf bs .table .n)) refl refl e
+    where
+      go : (a b : Bool) → ltb 0 (readingOf bs .number) ≡ a → short size at (readingOf bs .table .n) ≡ b → cond a (answerOf (readingOf bs)) (cond b (answer 10 0 0) (outcomeAnswer out)) .number ≡ number → Ready bs at size
+      go true b x y e = absurd (⊎-elim (λ z. omega (arith, ltb-true 0 (readingOf bs .number) x)) (λ z. omega (arith, number-le bs)) h)
+      go false true x y e = absurd (⊎-elim (λ z. omega arith) (λ z. omega arith) h)
+      go false false x y e = (omega (arith, ltb-false 0 (readingOf bs .number) x), ltb-false size (at + (12 + 9 * readingOf bs .table .n)) y)
+
+  -- of a good table, a plan is found exactly when a trial succeeds
+  succeeds : readingOf bs .number ≡ 0 → (out ≡ Planned) ↔ Succeeds (tasksOf (readingOf bs .table))
+  unfolding plannedOf tasksOf weighed
+  succeeds good = plan-exactly (tasksOf (readingOf bs .table)) (table-good bs (readingOf bs) refl good .processors .0)
+
+  -- the plan is written exactly when a listed trial succeeds
+  pub written-exactly : (planAnswer (readingOf bs) at size .number ≡ 0) ↔ (Ready bs at size × Succeeds (tasksOf (readingOf bs .table)))
+  written-exactly = (
+    (λ e.
+        let r = ready-by 0 e (inl refl) in
+        (r, succeeds (r .0) .0 (found out (sym (ready r) ∙ e)))),
+    λ (r, s). ready r ∙ planned-zero out (succeeds (r .0) .1 s),
+  )
+
+  -- "every trial failed": refusal 11 exactly when none succeeds
+  pub eleven-exactly : (planAnswer (readingOf bs) at size .number ≡ 11) ↔ (Ready bs at size × (Succeeds (tasksOf (readingOf bs .table)) → ⊥))
+  eleven-exactly = (
+    (λ e.
+        let r = ready-by 11 e (inr refl) in
+        (r, λ s. omega (arith, planned-zero out (succeeds (r .0) .1 s), ready r))),
+    λ (r, none). ready r ∙ failed out (λ p. none (succeeds (r .0) .0 p)),
+  )
