@@ -32,9 +32,9 @@ loop-less c = search needs
 
 loop-again : tie.Need-loop-again Inv-loop μ-loop
 loop-again c =
-    let b = c .before .before .before .before .before .before in
-    let l = c .before .before .before .loop in
-    (search needs, rw (c .before .demand .ensures) (rises (termsIn (b .args .period .now) (b .args .len .now) (b .args .n)) (b .args .own) (l .t) (l .inv .1)))
+    let s = c .before .before .before .before .before .before in
+    let at = c .before .before .before .loop in
+    (search needs, rw (c .before .demand .ensures) (rises (termsIn (s .args .period .now) (s .args .len .now) (s .args .n)) (s .args .own) (at .t) (at .inv .1)))
 
 returns-2 : tie.Need-returns-2 Inv-loop μ-loop
 returns-2 c =

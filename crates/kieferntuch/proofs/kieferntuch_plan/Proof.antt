@@ -68,7 +68,7 @@ write-at-requires c κs =
     let g = table-good (a .table .now) r e (omega arith) in
     let x = c .before .before .before .before .plan-table .ensures in
     let f = plan-fits (r .table) g (ap (λ (y : Tried). y .outcome) (sym x) ∙ c .before .before .enum-told .given .1) in
-    rw x (g .rows .1, g .processors .1, f .count, room, f .serves, f .rows)
+    rw x (g .rows .1, g .processors .1, f .count, omega (arith, room), f .serves, f .rows)
 
 reply-requires-4 : tie.Need-reply-requires-4
 reply-requires-4 c κs = search needs
