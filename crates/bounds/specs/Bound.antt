@@ -24,12 +24,7 @@ least terms own limit =
 unfoldable pub boundOf : List Term → ℕ → ℕ → ℕ → Bound
 boundOf terms len blocking limit = cond (eqb len 0) (At 0) (least terms (len + blocking) limit)
 
--- t is the least time of at least 1 that covers what is asked for within it, and it is just that much
-pub record Least (terms : List Term) (own t : ℕ) : Type 0 where
-  pub some : 1 ≤ t
-  pub same : own + demand terms t ≡ t
-  pub below : (u : ℕ) → 1 ≤ u → own + demand terms u ≤ u → t ≤ u
-
+-- what an answer says: that there is no bound, and the bound, 0 for none
 abbrev pub isMissing : Bound → Bool
 isMissing (At t) = false
 isMissing Missing = true
@@ -37,6 +32,12 @@ isMissing Missing = true
 abbrev pub timeOf : Bound → ℕ
 timeOf (At t) = t
 timeOf Missing = 0
+
+-- t is the least time of at least 1 that covers what is asked for within it, and it is just that much
+pub record Least (terms : List Term) (own t : ℕ) : Type 0 where
+  pub some : 1 ≤ t
+  pub same : own + demand terms t ≡ t
+  pub below : (u : ℕ) → 1 ≤ u → own + demand terms u ≤ u → t ≤ u
 
 -- the bound of a length that something may block: 0 for none, and otherwise the least time that covers
 pub record LeastBound (terms : List Term) (len blocking bound : ℕ) : Type 0 where

@@ -47,7 +47,7 @@ module _ (t : Table) (g : GoodTable t) (s : ℕ) (whole : (t .n ≤ sections (ta
   section-bound i l =
       let k : getD (t .rank) i 0 < t .n = at-lt (t .period) (t .rank) (t .n) (g .rows .1) (g .ranks) i l in
       rw (getD-inRows (t .rank) (t .n) (sections (tasksOf t) s .bound) i l, sym (at-rank (t .period) (t .rank) (t .n) (g .rows .1) (g .ranks) (t .a) i l))
-      (section-least (t .npp) (byRank t (planIn (tasksOf t) s) (t .period)) (byRank t (planIn (tasksOf t) s) (t .a)) (tasksOf t .top) (homes (tasksOf t) s) (t .n) (getD (t .rank) i 0) (omega arith) .0)
+      (section-least (t .npp) (byRank t (t .period)) (byRank t (t .a)) (tasksOf t .top) (homes (tasksOf t) s) (t .n) (getD (t .rank) i 0) (omega arith) .0)
 
   -- the terms of the stages in the plan are those that the trial counts
   stage-terms : (k : ℕ) → k < t .n → stageTerms t (planIn (tasksOf t) s) k ≡ termsOn (tasksOf t .period) (tasksOf t .work) (stages (tasksOf t) s .processor) (getD (stages (tasksOf t) s .processor) k 0) k

@@ -14,28 +14,28 @@ use Rattle.spread.specs.Weight.{Used}
 use Rattle.plan.specs.declared.Plan.{Plan}
 use Rattle.plan.specs.Tasks.{worksOf, ofResource}
 
-module _ (t : Table) (p : Plan) where
-  -- a column of the table or the plan, in rank order
-  abbrev pub byRank : List ℕ → List ℕ
-  byRank column = inRank (t .rank) (t .n) column
+-- a column of the table or the plan, in rank order
+abbrev pub byRank : Table → List ℕ → List ℕ
+byRank t column = inRank (t .rank) (t .n) column
 
+module _ (t : Table) (p : Plan) where
   -- the processor of each task's section, and that of its stages
   unfoldable pub sectionHomes : List ℕ
-  sectionHomes = ofResource (p .serves) (byRank (t .resource)) (t .n)
+  sectionHomes = ofResource (p .serves) (byRank t (t .resource)) (t .n)
 
   unfoldable pub stageHomes : List ℕ
-  stageHomes = byRank (p .processor)
+  stageHomes = byRank t (p .processor)
 
   -- "better-ranked tasks i with a section on that processor": ceil(t / T_i) × A_i
   unfoldable pub sectionTerms : ℕ → List Term
-  sectionTerms k = termsOn (byRank (t .period)) (byRank (t .a)) sectionHomes (getD sectionHomes k 0) k
+  sectionTerms k = termsOn (byRank t (t .period)) (byRank t (t .a)) sectionHomes (getD sectionHomes k 0) k
 
   -- "for each better-ranked task i on the same application processor": ceil(t / T_i) × (C1_i + C2_i)
   unfoldable pub stageTerms : ℕ → List Term
-  stageTerms k = termsOn (byRank (t .period)) (worksOf (byRank (t .c1)) (byRank (t .c2)) (t .n)) stageHomes (getD stageHomes k 0) k
+  stageTerms k = termsOn (byRank t (t .period)) (worksOf (byRank t (t .c1)) (byRank t (t .c2)) (t .n)) stageHomes (getD stageHomes k 0) k
 
   unfoldable pub blocking : ℕ → ℕ
-  blocking k = blockingOf (t .npp) (byRank (t .a)) (ofResource (t .ceiling) (byRank (t .resource)) (t .n)) sectionHomes (t .n) k
+  blocking k = blockingOf (t .npp) (byRank t (t .a)) (ofResource (t .ceiling) (byRank t (t .resource)) (t .n)) sectionHomes (t .n) k
 
   -- row i: each bound is the least that covers its demand, the three fit into the period, the processor is one for stages
   pub record RowBounds (i : ℕ) : Type 0 where

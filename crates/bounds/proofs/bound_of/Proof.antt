@@ -1,4 +1,4 @@
--- `bounds::bound_of` meets its contract.
+-- `bounds::bound_of` meets its contract. A length of 0 has bound 0; any other is searched for.
 use borrow.Author.Tests.{ne-eqb}
 use borrow.Author.Needs.{needs}
 use Rattle.bounds.specs.Bound.{boundOf}

@@ -1,4 +1,4 @@
--- `bounds::bound_on` meets its contract.
+-- `bounds::bound_on` meets its contract. The parts that are lent are all that stands from the lane's first place on.
 use Prim.Native.Nat.{_*_}
 use mathlib.Core.Path.{refl}
 use native.Mathlib.Omega.{arith}

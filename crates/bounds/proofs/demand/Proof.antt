@@ -1,4 +1,4 @@
--- `bounds::demand` meets its contract.
+-- `bounds::demand` meets its contract. The loop's invariant: the sum so far is `own` and what the first i terms ask for, and stays far below 2^32.
 use Prim.Native.Nat.{_+_, _*_, _-_, _≤_}
 use mathlib.Core.Path.{_≡_}
 use native.Mathlib.Omega.{arith}

@@ -1,4 +1,4 @@
--- `bounds::least` meets its contract.
+-- `bounds::least` meets its contract. The loop's invariant: t is on the way up to every time that covers.
 use Prim.Native.Nat.{_+_, _-_, _≤_}
 use mathlib.Core.Path.{sym, _∙_}
 use native.Mathlib.Omega.{arith}

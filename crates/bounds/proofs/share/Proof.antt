@@ -1,4 +1,4 @@
--- `bounds::share` meets its contract.
+-- `bounds::share` meets its contract. Within one period the quotient is 1; above it the product is below t and one period more.
 use mathlib.Core.Path.{refl, sym}
 use native.Mathlib.Omega.{arith}
 use borrow.Author.Needs.{needs}

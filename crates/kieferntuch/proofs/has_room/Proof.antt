@@ -1,4 +1,4 @@
--- `kieferntuch::has_room` meets its contract.
+-- `kieferntuch::has_room` meets its contract. What is left behind `at` is enough exactly when the whole is.
 use Prim.Native.Nat.{_+_, _*_}
 use native.Mathlib.Omega.{arith}
 use borrow.Author.Tests.{lt-ltb}

@@ -1,4 +1,4 @@
--- `kieferntuch::kieferntuch_plan` meets its contract.
+-- `kieferntuch::kieferntuch_plan` meets its contract. Each return is one of the four ways in which a call ends.
 use Prim.Native.Nat.{_+_, _*_}
 use mathlib.Core.Path.{sym, _∙_, ap}
 use native.Mathlib.Omega.{arith}

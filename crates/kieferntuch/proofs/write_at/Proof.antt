@@ -1,4 +1,4 @@
--- `kieferntuch::write_at` meets its contract.
+-- `kieferntuch::write_at` meets its contract. What is written at the start of the part stands from `at` on in the sheet.
 use native.Mathlib.Omega.{arith}
 use borrow.Author.Needs.{needs}
 use Rattle.sheet.specs.Sheet.{planBytes}

@@ -1,4 +1,4 @@
--- `plan::plan_tasks` meets its contract.
+-- `plan::plan_tasks` meets its contract. The loop's invariant: no trial before s succeeds, and row and mark are those of the one before s.
 use Prim.Native.Nat.{_+_, _-_, _≤_, _<_}
 use mathlib.Core.Path.{_≡_, sym, _∙_, ap}
 use native.Mathlib.Omega.{arith}

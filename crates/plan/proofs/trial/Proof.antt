@@ -1,4 +1,4 @@
--- `plan::trial` meets its contract.
+-- `plan::trial` meets its contract. Each return is one case of a trial.
 use mathlib.Core.Path.{_≡_, sym, _∙_, ap}
 use native.Mathlib.Omega.{arith}
 use borrow.Author.Needs.{needs}

@@ -1,4 +1,4 @@
--- `plan::works` meets its contract.
+-- `plan::works` meets its contract. The loop's invariant: the first k places are filled.
 use Prim.Native.Nat.{_+_, _-_, _≤_}
 use mathlib.Core.Path.{_≡_, sym, _∙_}
 use native.Mathlib.Omega.{arith}

@@ -1,4 +1,4 @@
--- `sections::blocking` meets its contract.
+-- `sections::blocking` meets its contract. The loop's invariant: the largest so far is the blocking among the first i tasks.
 use Prim.Native.Nat.{_-_, _≤_, _<_}
 use mathlib.Core.Path.{_≡_, sym}
 use native.Mathlib.Omega.{arith}

@@ -1,4 +1,4 @@
--- `sections::section_bounds` meets its contract.
+-- `sections::section_bounds` meets its contract. The loop's invariant: the first k tasks have their bounds, and stand in the lanes of their homes.
 use Prim.Native.Nat.{_-_, _≤_, _<_}
 use mathlib.Core.Path.{_≡_, refl, sym, _∙_, ap}
 use native.Mathlib.Omega.{arith}

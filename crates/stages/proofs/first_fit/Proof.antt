@@ -1,4 +1,4 @@
--- `stages::first_fit` meets its contract.
+-- `stages::first_fit` meets its contract. The loop's invariant: no processor before p has a fit.
 use Prim.Native.Nat.{_+_, _-_, _≤_, _<_}
 use mathlib.Core.Path.{_≡_, sym, _∙_}
 use native.Mathlib.Omega.{arith}

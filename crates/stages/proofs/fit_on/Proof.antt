@@ -1,4 +1,4 @@
--- `stages::fit_on` meets its contract.
+-- `stages::fit_on` meets its contract. Each return is one case of a fit.
 use Prim.Native.Nat.{_+_, _-_}
 use mathlib.Core.Path.{sym, _∙_}
 use native.Mathlib.Omega.{arith}

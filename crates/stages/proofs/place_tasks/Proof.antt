@@ -1,4 +1,4 @@
--- `stages::place_tasks` meets its contract.
+-- `stages::place_tasks` meets its contract. The loop's invariant: the first k tasks have their places, and stand in the lanes of their processors.
 use Prim.Native.Nat.{_-_, _≤_, _<_}
 use mathlib.Core.Path.{_≡_, refl, sym, _∙_, ap}
 use native.Mathlib.Omega.{arith}
