@@ -59,6 +59,12 @@ module _ (bs : List ℕ) (at size : ℕ) where
       go false true x y e = absurd (⊎-elim (λ z. omega arith) (λ z. omega arith) h)
       go false false x y e = (omega (arith, ltb-false 0 (readingOf bs .number) x), ltb-false size (at + (12 + 9 * readingOf bs .table .n)) y)
 
+  -- what is answered with 0: a good table, room on the sheet, and a plan
+  pub planned : planAnswer (readingOf bs) at size .number ≡ 0 → Ready bs at size × (out ≡ Planned)
+  planned e =
+      let r = ready-by 0 e (inl refl) in
+      (r, found out (sym (ready r) ∙ e))
+
   -- of a good table, a plan is found exactly when a trial succeeds
   succeeds : readingOf bs .number ≡ 0 → (out ≡ Planned) ↔ Succeeds (tasksOf (readingOf bs .table))
   unfolding plannedOf tasksOf weighed
@@ -68,8 +74,8 @@ module _ (bs : List ℕ) (at size : ℕ) where
   pub written-exactly : (planAnswer (readingOf bs) at size .number ≡ 0) ↔ (Ready bs at size × Succeeds (tasksOf (readingOf bs .table)))
   written-exactly = (
     (λ e.
-        let r = ready-by 0 e (inl refl) in
-        (r, succeeds (r .0) .0 (found out (sym (ready r) ∙ e)))),
+        let (r, p) = planned e in
+        (r, succeeds (r .0) .0 p)),
     λ (r, s). ready r ∙ planned-zero out (succeeds (r .0) .1 s),
   )
 

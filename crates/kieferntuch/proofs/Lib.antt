@@ -1,4 +1,4 @@
 pub mod Planned
-pub mod ReadBack
 pub mod Exactly
+pub mod ReadBack
 mod Cases

@@ -2,34 +2,20 @@
 use Prim.Native.Nat.{ℕ, _+_, _*_, _≤_}
 use mathlib.Core.Path.{_≡_, refl, _∙_, ap}
 use mathlib.Core.List.{List, _++_}
-use mathlib.Core.Bool.{Bool, true, false, cond}
+use mathlib.Core.Bool.{false}
 use native.Mathlib.Omega.{arith}
-use borrow.Author.Tests.{le-ltb, ltb-true, ltb-false}
+use borrow.Author.Tests.{le-ltb}
 use lib.ListN.{length, take, drop}
 use lib.Seq.{drop-at, take-at, length-take-le}
 use lib.Dec.{ltb}
-use Rattle.table.specs.declared.Reading.{Reading}
 use Rattle.table.specs.Table.{readingOf}
 use Rattle.table.proofs.Good.{table-good}
-use Rattle.plan.specs.declared.Outcome.{Outcome}
-use Rattle.plan.specs.declared.Outcome.the-variants.{Planned, Failed}
-use Rattle.plan.specs.Trial.{numberOf}
 use Rattle.plan.specs.Planning.{plannedOf}
 use Rattle.plan.proofs.Covers.{plan-fits}
 use Rattle.sheet.proofs.ReadBack.{PlanRead, plan-size, read-back}
-use Rattle.kieferntuch.specs.Answer.{answer, answerOf, short, outcomeAnswer, planAnswer}
+use Rattle.kieferntuch.proofs.Exactly.{planned}
+use Rattle.kieferntuch.specs.Answer.{planAnswer}
 use Rattle.kieferntuch.specs.Sheet.{writtenAt, bytesOf, sheetAfter}
-
--- what planning answers with 0: a good table, room on the sheet, and a plan
-planned : (r : Reading) (at size : ℕ) → planAnswer r at size .number ≡ 0 → (r .number ≡ 0) × (at + (12 + 9 * r .table .n) ≤ size) × (plannedOf (r .table) .outcome ≡ Planned)
-unfolding planAnswer numberOf
-planned r at size e = go (ltb 0 (r .number)) (short size at (r .table .n)) (plannedOf (r .table) .outcome) refl refl refl e
-  where
-    go : (a b : Bool) (o : Outcome) → ltb 0 (r .number) ≡ a → short size at (r .table .n) ≡ b → plannedOf (r .table) .outcome ≡ o → cond a (answerOf r) (cond b (answer 10 0 0) (outcomeAnswer o)) .number ≡ 0 → (r .number ≡ 0) × (at + (12 + 9 * r .table .n) ≤ size) × (plannedOf (r .table) .outcome ≡ Planned)
-    go true b o x y z e = absurd (omega (arith, ltb-true 0 (r .number) x))
-    go false true o x y z e = absurd (omega arith)
-    go false false Planned x y z e = (omega (arith, ltb-false 0 (r .number) x), ltb-false size (at + (12 + 9 * r .table .n)) y, z)
-    go false false (Failed row mark) x y z e = absurd (omega arith)
 
 -- bytes that are written are there
 there : (sheet : List ℕ) (at : ℕ) (bytes : List ℕ) (n : ℕ) → length bytes ≡ n → at ≤ length sheet → take n (drop at (writtenAt sheet at bytes)) ≡ bytes
@@ -46,7 +32,7 @@ sheet-read-back bs at sheet e =
     let r = readingOf bs in
     let t = r .table in
     let p = plannedOf t .plan in
-    let (number, room, found) = planned r at (length sheet) e in
+    let ((number, room), found) = planned bs at (length sheet) e in
     let g = table-good bs r refl number in
     let f = plan-fits t g found in
     let w : ltb 0 (planAnswer r at (length sheet) .number) ≡ false = le-ltb 0 (planAnswer r at (length sheet) .number) (omega arith) in

@@ -28,10 +28,10 @@ use Rattle.plan.specs.declared.Tasks.{Tasks}
 use Rattle.plan.specs.declared.Plan.{Plan}
 use Rattle.plan.specs.declared.Outcome.the-variants.{Planned}
 use Rattle.plan.specs.declared.Tried.{Tried}
-use Rattle.plan.specs.Tasks.{weighed, tasksOf}
+use Rattle.plan.specs.Tasks.{byRank, weighed, tasksOf}
 use Rattle.plan.specs.Trial.{planBy, serves, homes, sections, stages}
 use Rattle.plan.specs.Planning.{firstTrial, lastTrial, plannedOf}
-use Rattle.plan.specs.Bounds.{byRank, sectionHomes, stageHomes, sectionTerms, stageTerms, blocking, RowBounds, Served}
+use Rattle.plan.specs.Bounds.{sectionHomes, stageHomes, sectionTerms, stageTerms, blocking, RowBounds, Served}
 use Rattle.plan.specs.Good.{PlanFits}
 use Rattle.plan.proofs.Ordered.{good-rows, tasks-good}
 use Rattle.plan.proofs.Trials.{serves-small, trial-planned, trial-whole, first-one, last-lt, planning-trial}

@@ -4,7 +4,6 @@ use Prim.Native.Nat.{ℕ, _+_, _≤_, _<_}
 use mathlib.Core.Path.{_≡_}
 use mathlib.Core.List.{List}
 use lib.ListN.{getD}
-use Rattle.rank.specs.Order.{inRank}
 use Rattle.table.specs.declared.Table.{Table}
 use Rattle.bounds.specs.Demand.{Term}
 use Rattle.bounds.specs.Terms.{termsOn}
@@ -12,11 +11,7 @@ use Rattle.bounds.specs.Bound.{LeastBound}
 use Rattle.sections.specs.Blocking.{blockingOf}
 use Rattle.spread.specs.Weight.{Used}
 use Rattle.plan.specs.declared.Plan.{Plan}
-use Rattle.plan.specs.Tasks.{worksOf, ofResource}
-
--- a column of the table or the plan, in rank order
-abbrev pub byRank : Table → List ℕ → List ℕ
-byRank t column = inRank (t .rank) (t .n) column
+use Rattle.plan.specs.Tasks.{byRank, worksOf, ofResource}
 
 module _ (t : Table) (p : Plan) where
   -- the processor of each task's section, and that of its stages

@@ -8,6 +8,10 @@ use Rattle.table.specs.declared.Table.{Table}
 use Rattle.spread.specs.Weight.{weightsOf, usedOf, heaviestOf}
 use Rattle.plan.specs.declared.Tasks.{Tasks}
 
+-- a column of a table or its plan, in rank order
+abbrev pub byRank : Table → List ℕ → List ℕ
+byRank t column = inRank (t .rank) (t .n) column
+
 -- C1 + C2 of each of n tasks
 abbrev pub worksOf : List ℕ → List ℕ → ℕ → List ℕ
 worksOf c1s c2s n = filled 64 0 n (λ k. getD c1s k 0 + getD c2s k 0)
@@ -23,14 +27,14 @@ weighed t weights =
       n = t .n;
       m = t .m;
       npp = t .npp;
-      period = inRank (t .rank) (t .n) (t .period);
-      c1 = inRank (t .rank) (t .n) (t .c1);
-      a = inRank (t .rank) (t .n) (t .a);
-      c2 = inRank (t .rank) (t .n) (t .c2);
-      work = worksOf (inRank (t .rank) (t .n) (t .c1)) (inRank (t .rank) (t .n) (t .c2)) (t .n);
-      resource = inRank (t .rank) (t .n) (t .resource);
-      top = ofResource (t .ceiling) (inRank (t .rank) (t .n) (t .resource)) (t .n);
-      row = inRank (t .rank) (t .n) (numbersTo (t .n));
+      period = byRank t (t .period);
+      c1 = byRank t (t .c1);
+      a = byRank t (t .a);
+      c2 = byRank t (t .c2);
+      work = worksOf (byRank t (t .c1)) (byRank t (t .c2)) (t .n);
+      resource = byRank t (t .resource);
+      top = ofResource (t .ceiling) (byRank t (t .resource)) (t .n);
+      row = byRank t (numbersTo (t .n));
       rank = t .rank;
       weight = weights;
       heaviest = heaviestOf weights;

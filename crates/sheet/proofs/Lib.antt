@@ -3,4 +3,3 @@ pub mod Bytes
 pub mod Words
 pub mod Read
 pub mod ReadBack
-mod Cases

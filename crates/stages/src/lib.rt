@@ -101,22 +101,12 @@ pub fn place_tasks(
     let mut processor = lists::no_column();
     let mut d1 = lists::no_column();
     let mut d2 = lists::no_column();
-    let mut periods = bounds::no_lanes();
-    let mut lens = bounds::no_lanes();
+    let mut ps = bounds::no_lanes();
+    let mut ls = bounds::no_lanes();
     let mut count = lists::no_numbered();
     let mut k = 0;
     while k < n {
-        let place = first_fit(
-            &periods,
-            &lens,
-            &count,
-            s,
-            m,
-            c1[k],
-            c2[k],
-            section[k],
-            period[k],
-        );
+        let place = first_fit(&ps, &ls, &count, s, m, c1[k], c2[k], section[k], period[k]);
         let Place::On(p, x, y) = place else {
             return Stages {
                 nowhere: k,
@@ -128,14 +118,7 @@ pub fn place_tasks(
         processor[k] = p;
         d1[k] = x;
         d2[k] = y;
-        bounds::add_term(
-            &mut periods,
-            &mut lens,
-            &mut count,
-            p as usize,
-            period[k],
-            work[k],
-        );
+        bounds::add_term(&mut ps, &mut ls, &mut count, p as usize, period[k], work[k]);
         k += 1;
     }
     Stages {
