@@ -26,6 +26,37 @@ kieferntuch_answer kieferntuch_read(const uint8_t *table, size_t length);
 kieferntuch_answer kieferntuch_plan(const uint8_t *table, size_t table_length, size_t at, uint8_t *sheet,
                                     size_t sheet_length);
 
+/* An arrival: its tick, its row counted from 1, and the actual lengths of stage one, section and stage two. */
+typedef struct {
+    uint32_t tick;
+    uint32_t row;
+    uint32_t len1;
+    uint32_t len2;
+    uint32_t len3;
+} kieferntuch_arrival;
+
+/* What a run returns: a refusal (it may name a position counted from 1); the worst responses seen, of row r's stage one,
+   section and stage two at 3(r - 1), 3(r - 1) + 1 and 3(r - 1) + 2, 0 where none ended; jobs ended, units run, and units
+   owed. Beside a refusal they are all 0. */
+typedef struct {
+    uint32_t number;
+    uint32_t names;
+    uint32_t mark;
+    uint32_t worst[192];
+    uint64_t jobs;
+    uint64_t run;
+    uint64_t owed;
+} kieferntuch_ran;
+
+/* Plans a table from any `table_length` bytes, runs it with these arrivals through ticks 0 to `from` + `ticks` - 1, and
+   writes those from `from` on into the trace: for each tick a byte for each of the m processors, 2 bits of kind (0 idle,
+   1 stage one, 2 section, 3 stage two) and 6 bits row - 1. Number 0: m * `ticks` bytes are written, and those behind are
+   as they were; 1 to 9 and 11 to 18: the refusal, what it names and, with 11 alone, its mark, and no byte of the trace
+   has changed; 19: the refusal and its row, and m * `ticks` bytes are 0. Table and arrivals are only read, and do not
+   overlap the trace. */
+kieferntuch_ran kieferntuch_run(const uint8_t *table, size_t table_length, const kieferntuch_arrival *arrivals,
+                                size_t arrival_count, size_t from, size_t ticks, uint8_t *trace, size_t trace_length);
+
 #ifdef __cplusplus
 }
 #endif

@@ -7,10 +7,13 @@ ghost use Rattle.table.specs.Table.{readingOf};
 ghost use Rattle.table.specs.Good.{GoodTable};
 ghost use Rattle.plan.specs.Planning.{plannedOf};
 ghost use Rattle.sheet.specs.Sheet.{planBytes, ServesFit, TasksFit};
+ghost use Rattle.run.specs.Answer.{runAnswer, traceAfter};
 ghost use Rattle.kieferntuch.specs.Answer.{answer as Answer·answer, answerOf, short, planAnswer};
 ghost use Rattle.kieferntuch.specs.Sheet.{writtenAt, sheetAfter};
+use arrivals::Arrival;
 use plan::Outcome;
 use plan::Plan;
+use run::Ran;
 
 // The number of the refusal, 0 if there is none, what it names, and its mark.
 #[repr(C)]
@@ -95,4 +98,25 @@ pub extern "C" fn kieferntuch_plan(table: &[u8], at: usize, sheet: &mut [u8]) ->
     let p = tried.plan;
     write_at(sheet, at, t.n, t.m, p);
     reply(0, 0, 0)
+}
+
+// Room for the numbers of 4,096 arrivals.
+fn no_flat() -> [u32; 20480] {
+    [0u32; 20480]
+}
+
+// Runs the planned table from any bytes: steps ticks 0 to from + ticks - 1 and writes those of the window into the trace.
+#[no_mangle]
+pub extern "C" fn kieferntuch_run(
+    table: &[u8],
+    arrivals: &[Arrival],
+    from: usize,
+    ticks: usize,
+    trace: &mut [u8],
+) -> Ran
+    ensures { λ r. ⌜ (r ≡ runAnswer (readingOf (now (table .entry))) (now (arrivals .entry)) from ticks (length (now (trace .entry)))) × (now (trace .exit) ≡ traceAfter (readingOf (now (table .entry))) (now (arrivals .entry)) from ticks (now (trace .entry))) ⌝ }
+{
+    let mut flat = no_flat();
+    arrivals::taken_apart(arrivals, &mut flat);
+    run::run_flat(table, &flat, arrivals.len(), from, ticks, trace)
 }

@@ -110,6 +110,15 @@ module _ (t : Table) (g : GoodTable t) (e : plannedOf t .outcome ≡ Planned) wh
       let (s, a, b, w, q) = planned-in in
       rw q (trial-bounds t g s w i l)
 
+  -- no resource is on a processor past 16
+  pub plan-serves : (r : ℕ) → getD (plannedOf t .plan .serves) r 0 ≤ 16
+  unfolding tasksOf weighed planBy
+  plan-serves r =
+      let (s, a, b, w, q) = planned-in in
+      let h : s < t .m = omega (arith, last-lt (tasksOf t) (g .processors .0)) in
+      let d : plannedOf t .plan .serves ≡ serves (tasksOf t) s = ap (λ (p : Plan). p .serves) q in
+      rw d (omega (arith, serves-small (tasksOf t) (tasks-good t g) s h (λ u. omega (arith, first-one (tasksOf t) u)) r))
+
   -- the numbers of a plan can be said in their fields
   pub plan-fits : PlanFits (t .n) (plannedOf t .plan)
   unfolding tasksOf weighed planBy
@@ -117,10 +126,9 @@ module _ (t : Table) (g : GoodTable t) (e : plannedOf t .outcome ≡ Planned) wh
       let (s, a, b, w, q) = planned-in in
       let h : s < t .m = omega (arith, last-lt (tasksOf t) (g .processors .0)) in
       let c : plannedOf t .plan .s ≡ s = ap (λ (p : Plan). p .s) q in
-      let d : plannedOf t .plan .serves ≡ serves (tasksOf t) s = ap (λ (p : Plan). p .serves) q in
       record {
         count = omega (arith, c, g .processors .1);
-        serves = λ r l. rw d (omega (arith, serves-small (tasksOf t) (tasks-good t g) s h (λ u. omega (arith, first-one (tasksOf t) u)) r));
+        serves = λ r l. omega (arith, plan-serves r);
         rows = λ k l. let x = plan-bounds k l in
             let y = x .sum in
             let z = g .tasks k l .period .1 in

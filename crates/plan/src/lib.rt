@@ -79,7 +79,7 @@ fn works(c1: &[u32; 64], c2: &[u32; 64], n: usize) -> [u32; 64]
 }
 
 // What each of n tasks' resource has, from the values of the resources at their numbers.
-fn of_resource(value: &[u32; 17], resource: &[u32; 64], n: usize) -> [u32; 64]
+pub fn of_resource(value: &[u32; 17], resource: &[u32; 64], n: usize) -> [u32; 64]
     requires { ⌜ (n ≤ 64) × ((k : ℕ) → k < n → getD (now resource) k 0 ≤ 16) ⌝ }
     ensures { λ r. ⌜ r ≡ ofResource (now (value .entry)) (now (resource .entry)) n ⌝ }
 {

@@ -1,0 +1,5 @@
+pub mod Offsets
+pub mod Entering
+pub mod Cases
+pub mod Keeps
+pub mod Counts

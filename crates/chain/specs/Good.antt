@@ -1,0 +1,26 @@
+-- What keeps the numbers of a job within 32 bits.
+use Prim.Native.Nat.{ℕ, _+_, _*_, _≤_, _<_}
+use mathlib.Core.List.{List}
+use mathlib.Core.Path.{_≡_}
+use lib.ListN.{getD, length}
+use Rattle.chain.specs.Job.{Place, Idle, Waiting, Running, Job}
+
+-- the bounds of 64 rows, each at most the longest period
+pub record GoodBounds (bounds : List ℕ) : Type 0 where
+  pub whole : length bounds ≡ 192
+  pub small : (k : ℕ) → getD bounds k 0 ≤ 1000000
+
+-- the part that a place speaks of
+abbrev pub partOf : Place → ℕ
+partOf Idle = 0
+partOf (Waiting u j) = j
+partOf (Running j l) = j
+
+pub record GoodJob (x : Job) : Type 0 where
+  pub arrived : x .arrived ≤ 1000000
+  pub part : partOf (x .place) < 3
+
+-- the counts of a job before tick t: at most three ends a tick, and one unit
+pub record Small (t : ℕ) (x : Job) : Type 0 where
+  pub ended : x .ended ≤ 3 * t
+  pub ran : x .ran ≤ t

@@ -1,0 +1,20 @@
+-- What a run counts: "jobs ended, units run, and units owed".
+use Prim.Native.Nat.{ℕ, zero, suc, _+_}
+use mathlib.Core.List.{List}
+use Rattle.chain.specs.declared.Job.{Job}
+use Rattle.chain.specs.Job.{jobAt}
+use Rattle.chain.specs.Owed.{owes}
+pub use Rattle.machine.specs.declared.Tally.{Tally}
+
+-- the sum of f over the first n numbers
+unfoldable pub total : ℕ → (ℕ → ℕ) → ℕ
+total zero f = 0
+total (suc n) f = total n f + f n
+
+unfoldable pub tallyOf : ℕ → List Job → Tally
+tallyOf n js =
+    record {
+      jobs = total n (λ i. jobAt js i .ended);
+      run = total n (λ i. jobAt js i .ran);
+      owed = total n (λ i. owes (jobAt js i .lens) (jobAt js i .place));
+    }

@@ -1,0 +1,4 @@
+pub mod Chart
+pub mod Tick
+pub mod Counts
+pub mod Good

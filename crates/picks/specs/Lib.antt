@@ -1,0 +1,4 @@
+pub mod Best
+pub mod Pick
+pub mod Offer
+pub mod Good

@@ -1,0 +1,14 @@
+pub mod Front
+pub mod Steps
+pub mod Ends
+pub mod Charted
+pub mod Calls
+pub mod Many
+pub mod Joined
+pub mod Accepted
+pub mod Window
+pub mod Lengths
+pub mod Busy
+pub mod Units
+pub mod Seats
+pub mod Totals

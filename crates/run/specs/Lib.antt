@@ -1,0 +1,5 @@
+pub mod Run
+pub mod Answer
+pub mod State
+pub mod Brought
+pub mod Seated

@@ -1,0 +1,4 @@
+pub mod Rows
+pub mod Quiet
+pub mod Steps
+pub mod Arriving
