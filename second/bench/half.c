@@ -1,17 +1,23 @@
-/* The C half of `second bench`: it links the product and the Rust planner that is written for
-   speed, and times both in one process, on the tables that standard input brings.
+/* The C half of `second bench`: it links the product and the Rust code that is written for speed,
+   and times both in one process, on the tables that standard input brings: the two planners, or the
+   two machines.
 
-   Input: how many tables, how many rounds, the length of the sheet, and for each table its length
-   and its bytes. Output: the length of a text and the text, which says how this program was built;
-   for each round the nanoseconds that the product and the Rust planner took for all tables; and for
-   each table the answer, number, names and mark of 4 bytes each, and the sheet, of the product and
-   then of the Rust planner. All other numbers have 8 bytes. The lowest byte comes first.
+   Input: a byte, 'p' to plan or 'u' to run; how many calls, and how many rounds. To plan, then the
+   length of the sheet, and for each call the length of its table and its bytes. To run, then the
+   numbers `from` and `ticks` and the length of the trace, and for each call the length of its table
+   and its bytes, the count of its arrivals, and tick, row and three lengths of 4 bytes each for
+   every one of them.
+   Output: the length of a text and the text, which says how this program was built; for each round
+   the nanoseconds that the product and the Rust code took for all calls; and for each call the
+   answer, number, names and mark of 4 bytes each, and the sheet, of the product and then of the Rust
+   code. A run's answer goes on with 192 responses of 4 bytes each, jobs, run and owed, and the trace
+   takes the sheet's place. All other numbers have 8 bytes. The lowest byte comes first.
 
-   A round is one pass over all tables by each planner; which of them begins changes from round to
+   A round is one pass over all calls by each of the two; which of them begins changes from round to
    round, and a round in front of the others is not counted. The clock is asked before and behind
    each pass; it is the process's own, so that what else runs on the machine takes no part in it.
-   All calls of both write to one sheet, which is not cleared. The answers at the end come from
-   further calls, not timed, each on a sheet that was filled with the byte EE.
+   All calls of both write to one sheet or trace, which is not cleared. The answers at the end come
+   from further calls, not timed, each on one that was filled with the byte EE.
 
    Exit code: 0, or 1 on broken input, or 2 when memory, the clock or the output fails.
 
@@ -29,31 +35,51 @@ struct timespec {
 };
 int clock_gettime(int clock, struct timespec *time);
 
-/* As kieferntuch_plan, in fast.rs. */
+/* As kieferntuch_plan and kieferntuch_run, in fast.rs. */
 kieferntuch_answer second_plan(const uint8_t *table, size_t table_length, size_t at, uint8_t *sheet,
                                size_t sheet_length);
+kieferntuch_ran second_run(const uint8_t *table, size_t table_length, const kieferntuch_arrival *arrivals,
+                           size_t arrival_count, size_t from, size_t ticks, uint8_t *trace, size_t trace_length);
 
-/* How the two planners were compiled; the build names it. */
+/* How the two were compiled; the build names it. */
 static const char how[] = HOW;
 
-enum { NUMBER = 8, UNTOUCHED = 0xee };
+enum { NUMBER = 8, WORST = 192, UNTOUCHED = 0xee };
 enum { BROKEN = 1, FAILED = 2 };
 enum { PROCESSOR_TIME = 2 };
 
-typedef kieferntuch_answer planner(const uint8_t *, size_t, size_t, uint8_t *, size_t);
+/* Whose code is called. */
+typedef enum { PRODUCT, RUST } side;
 
 typedef struct {
     uint8_t *bytes;
     size_t length;
 } lent;
 
-static void take(uint8_t *bytes, size_t count)
+typedef struct {
+    lent table;
+    kieferntuch_arrival *arrivals;
+    size_t arrival_count;
+} call;
+
+/* All that is timed. */
+static struct {
+    call *calls;
+    size_t count;
+    size_t from;
+    size_t ticks;
+    /* The sheet or the trace. */
+    lent out;
+} work;
+
+static void take(void *bytes, size_t count)
 {
+    uint8_t *rest = bytes;
     while (count > 0) {
-        ptrdiff_t more = read(0, bytes, count);
+        ptrdiff_t more = read(0, rest, count);
         if (more <= 0)
             exit(BROKEN);
-        bytes += more;
+        rest += more;
         count -= (size_t)more;
     }
 }
@@ -104,38 +130,87 @@ static uint64_t now(void)
     return (uint64_t)time.seconds * 1000000000 + (uint64_t)time.nanoseconds;
 }
 
-/* The time of one pass over all tables. */
-static uint64_t pass(planner plan, const lent *tables, size_t count, const lent *sheet)
+static kieferntuch_answer plan(side side, const call *call)
+{
+    const lent *table = &call->table;
+    return (side == PRODUCT ? kieferntuch_plan : second_plan)(table->bytes, table->length, 0, work.out.bytes,
+                                                              work.out.length);
+}
+
+static kieferntuch_ran run(side side, const call *call)
+{
+    const lent *table = &call->table;
+    return (side == PRODUCT ? kieferntuch_run : second_run)(table->bytes, table->length, call->arrivals,
+                                                            call->arrival_count, work.from, work.ticks, work.out.bytes,
+                                                            work.out.length);
+}
+
+static void plan_all(side side)
+{
+    for (size_t place = 0; place < work.count; place++)
+        plan(side, &work.calls[place]);
+}
+
+static void run_all(side side)
+{
+    for (size_t place = 0; place < work.count; place++)
+        run(side, &work.calls[place]);
+}
+
+/* The time of one pass over all calls. */
+static uint64_t timed(void all(side), side side)
 {
     uint64_t begin = now();
-    for (size_t place = 0; place < count; place++)
-        plan(tables[place].bytes, tables[place].length, 0, sheet->bytes, sheet->length);
+    all(side);
     return now() - begin;
 }
 
-static void put_round(size_t round, const lent *tables, size_t count, const lent *sheet)
+static void put_round(void all(side), size_t round)
 {
     uint64_t product = 0;
     if (round % 2 == 0)
-        product = pass(kieferntuch_plan, tables, count, sheet);
-    uint64_t rust = pass(second_plan, tables, count, sheet);
+        product = timed(all, PRODUCT);
+    uint64_t rust = timed(all, RUST);
     if (round % 2 == 1)
-        product = pass(kieferntuch_plan, tables, count, sheet);
+        product = timed(all, PRODUCT);
     if (round == 0)
         return;
     put_number(product, NUMBER);
     put_number(rust, NUMBER);
 }
 
-static void put_answer(planner plan, const lent *table, const lent *sheet)
+static void fill(void)
 {
-    for (size_t place = 0; place < sheet->length; place++)
-        sheet->bytes[place] = UNTOUCHED;
-    kieferntuch_answer answer = plan(table->bytes, table->length, 0, sheet->bytes, sheet->length);
-    put_number(answer.number, 4);
-    put_number(answer.names, 4);
-    put_number(answer.mark, 4);
-    put(sheet->bytes, sheet->length);
+    for (size_t place = 0; place < work.out.length; place++)
+        work.out.bytes[place] = UNTOUCHED;
+}
+
+static void put_refusal(uint32_t number, uint32_t names, uint32_t mark)
+{
+    put_number(number, 4);
+    put_number(names, 4);
+    put_number(mark, 4);
+}
+
+static void put_plan(side side, const call *call)
+{
+    fill();
+    kieferntuch_answer answer = plan(side, call);
+    put_refusal(answer.number, answer.names, answer.mark);
+    put(work.out.bytes, work.out.length);
+}
+
+static void put_run(side side, const call *call)
+{
+    fill();
+    kieferntuch_ran ran = run(side, call);
+    put_refusal(ran.number, ran.names, ran.mark);
+    for (size_t place = 0; place < WORST; place++)
+        put_number(ran.worst[place], 4);
+    put_number(ran.jobs, NUMBER);
+    put_number(ran.run, NUMBER);
+    put_number(ran.owed, NUMBER);
+    put(work.out.bytes, work.out.length);
 }
 
 static void make(lent *lent, size_t length)
@@ -144,24 +219,49 @@ static void make(lent *lent, size_t length)
     lent->bytes = some(length);
 }
 
+/* An arrival stands in the input as in memory. */
+static void take_call(call *call, int running)
+{
+    make(&call->table, take_number());
+    take(call->table.bytes, call->table.length);
+    if (!running)
+        return;
+    call->arrival_count = take_number();
+    call->arrivals = some(call->arrival_count * sizeof *call->arrivals);
+    take(call->arrivals, call->arrival_count * sizeof *call->arrivals);
+}
+
+/* Takes the calls, and hands back how many rounds there are to be. */
+static size_t take_work(int running)
+{
+    work.count = take_number();
+    size_t rounds = take_number();
+    if (running) {
+        work.from = take_number();
+        work.ticks = take_number();
+    }
+    make(&work.out, take_number());
+    work.calls = some(work.count * sizeof *work.calls);
+    for (size_t place = 0; place < work.count; place++)
+        take_call(&work.calls[place], running);
+    return rounds;
+}
+
 int main(void)
 {
-    size_t count = take_number();
-    size_t rounds = take_number();
-    lent sheet;
-    make(&sheet, take_number());
-    lent *tables = some(count * sizeof *tables);
-    for (size_t place = 0; place < count; place++) {
-        make(&tables[place], take_number());
-        take(tables[place].bytes, tables[place].length);
-    }
+    uint8_t what;
+    take(&what, 1);
+    if (what != 'p' && what != 'u')
+        return BROKEN;
+    int running = what == 'u';
+    size_t rounds = take_work(running);
     put_number(sizeof how - 1, NUMBER);
     put(how, sizeof how - 1);
     for (size_t round = 0; round <= rounds; round++)
-        put_round(round, tables, count, &sheet);
-    for (size_t place = 0; place < count; place++) {
-        put_answer(kieferntuch_plan, &tables[place], &sheet);
-        put_answer(second_plan, &tables[place], &sheet);
+        put_round(running ? run_all : plan_all, round);
+    for (size_t place = 0; place < work.count; place++) {
+        (running ? put_run : put_plan)(PRODUCT, &work.calls[place]);
+        (running ? put_run : put_plan)(RUST, &work.calls[place]);
     }
     return 0;
 }

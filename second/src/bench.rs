@@ -1,6 +1,9 @@
-//! `second bench`: the product's planner and the one in fast.rs, timed in one process. The program
-//! that does so is `bench/half.c`, which says how; here the tables are made, and what it says is
-//! read. Both planners' answers and sheets have to be the plain planner's.
+//! `second bench`: the product's planner and the one in fast.rs, timed in one process, and then the
+//! product's machine and the one in fast_run.rs. The program that does so is `bench/half.c`, which
+//! says how; here the tables are made, and what it says is read. Both planners' answers and sheets
+//! have to be the plain planner's, and both machines' answers and traces the plain machine's.
+
+mod run;
 
 use crate::answer::Refusal;
 use crate::checks::hex;
@@ -32,8 +35,13 @@ struct Group {
     outcomes: Vec<Outcome>,
 }
 
-/// Prints what was measured; an error if a planner errs, or if a half cannot be run.
+/// Prints what was measured; an error if something errs, or if a half cannot be run.
 pub fn bench(options: &Options) -> Result<(), String> {
+    bench_planners(options)?;
+    run::bench_machines(options)
+}
+
+fn bench_planners(options: &Options) -> Result<(), String> {
     let groups = groups(&mut Random::new(options.seed, "bench"), TABLES);
     println!(
         "whole calls, from a table's bytes to a written sheet; 64 rows, 16 processors; one sheet for \
@@ -41,14 +49,9 @@ pub fn bench(options: &Options) -> Result<(), String> {
     );
     for command in &options.halves {
         for (place, group) in groups.iter().enumerate() {
-            let input = input(group);
-            let output =
-                program::output(command, &input).map_err(|why| format!("{command}: {why}"))?;
-            if !output.status.success() {
-                return Err(format!("{command}: {}", output.status));
-            }
+            let output = output(command, &input(group))?;
             let told = |why| format!("{command}: {}: {why}", group.name);
-            let said = said(&output.stdout, group).map_err(told)?;
+            let said = said(&output, group).map_err(told)?;
             if place == 0 {
                 println!("{}", said.how);
             }
@@ -56,6 +59,15 @@ pub fn bench(options: &Options) -> Result<(), String> {
         }
     }
     Ok(())
+}
+
+/// What a half prints, if it ends in success.
+fn output(command: &str, input: &[u8]) -> Result<Vec<u8>, String> {
+    let output = program::output(command, input).map_err(|why| format!("{command}: {why}"))?;
+    match output.status.success() {
+        true => Ok(output.stdout),
+        false => Err(format!("{command}: {}", output.status)),
+    }
 }
 
 /// So many tables for each group.
@@ -81,10 +93,8 @@ fn groups(random: &mut Random, count: usize) -> [Group; GROUPS.len()] {
 }
 
 fn input(group: &Group) -> Vec<u8> {
-    let number = |number: usize| (number as u64).to_le_bytes();
-    let mut bytes = [group.tables.len(), ROUNDS, SHEET_BYTES]
-        .map(number)
-        .concat();
+    let numbers = [group.tables.len(), ROUNDS, SHEET_BYTES].map(number);
+    let mut bytes = [b"p", numbers.as_flattened()].concat();
     for table in &group.tables {
         bytes.extend(number(table.len()));
         bytes.extend(table);
@@ -92,7 +102,11 @@ fn input(group: &Group) -> Vec<u8> {
     bytes
 }
 
-/// What a half says of a group.
+fn number(number: usize) -> [u8; 8] {
+    (number as u64).to_le_bytes()
+}
+
+/// How a half was built, and what it has measured.
 struct Said {
     how: String,
     /// Nanoseconds of each round, the fastest first.
@@ -101,30 +115,42 @@ struct Said {
 }
 
 impl Said {
-    fn line(&self, group: &Group) -> String {
-        let micros = |nanos: u64| nanos as f64 / 1_000.0 / group.tables.len() as f64;
-        let measured = |place: usize| {
-            let (product, rust) = (micros(self.product[place]), micros(self.rust[place]));
+    fn read(rest: &mut &[u8], rounds: usize) -> Result<Said, String> {
+        let length = u64::from_le_bytes(array(rest)?) as usize;
+        let how = String::from_utf8_lossy(part(rest, length)?).to_string();
+        let (mut product, mut rust) = (Vec::new(), Vec::new());
+        for _ in 0..rounds {
+            product.push(u64::from_le_bytes(array(rest)?));
+            rust.push(u64::from_le_bytes(array(rest)?));
+        }
+        product.sort();
+        rust.sort();
+        Ok(Said { how, product, rust })
+    }
+
+    /// The best round and the median, each in the unit that is made of nanoseconds, and the ratio
+    /// of the times.
+    fn measured(&self, unit: impl Fn(f64) -> f64) -> String {
+        let words = |place: usize| {
+            let (product, rust) = (self.product[place] as f64, self.rust[place] as f64);
             let ratio = product / rust;
+            let (product, rust) = (unit(product), unit(rust));
             format!("product {product:.2}, Rust {rust:.2}, product/Rust {ratio:.2}")
         };
+        let (best, median) = (words(0), words(self.product.len() / 2));
+        format!("best {best}; median {median}")
+    }
+
+    fn line(&self, group: &Group) -> String {
         let (name, count) = (group.name, group.tables.len());
-        let (best, median) = (measured(0), measured(ROUNDS / 2));
-        format!("{name}, {count} tables: best {best}; median {median}")
+        let micros = |nanos| nanos / 1_000.0 / count as f64;
+        format!("{name}, {count} tables: {}", self.measured(micros))
     }
 }
 
 fn said(output: &[u8], group: &Group) -> Result<Said, String> {
     let mut rest = output;
-    let length = u64::from_le_bytes(array(&mut rest)?) as usize;
-    let how = String::from_utf8_lossy(part(&mut rest, length)?).to_string();
-    let (mut product, mut rust) = (Vec::new(), Vec::new());
-    for _ in 0..ROUNDS {
-        product.push(u64::from_le_bytes(array(&mut rest)?));
-        rust.push(u64::from_le_bytes(array(&mut rest)?));
-    }
-    product.sort();
-    rust.sort();
+    let said = Said::read(&mut rest, ROUNDS)?;
     for (table, outcome) in group.tables.iter().zip(&group.outcomes) {
         for planner in ["product", "Rust"] {
             if answered(&mut rest)? != *outcome {
@@ -133,7 +159,7 @@ fn said(output: &[u8], group: &Group) -> Result<Said, String> {
         }
     }
     match rest {
-        [] => Ok(Said { how, product, rust }),
+        [] => Ok(said),
         _ => Err("it says too much".to_string()),
     }
 }
@@ -171,15 +197,21 @@ fn part<'a>(rest: &mut &'a [u8], count: usize) -> Result<&'a [u8], String> {
 }
 
 #[cfg(test)]
-mod tests {
+pub mod tests {
     use super::*;
+
+    /// What a half says in front of its answers.
+    pub fn said_first(rounds: u64) -> Vec<u8> {
+        let mut bytes = [&[3, 0, 0, 0, 0, 0, 0, 0], &b"how"[..]].concat();
+        for round in (1..=2 * rounds).rev() {
+            bytes.extend((round * 1_000).to_le_bytes());
+        }
+        bytes
+    }
 
     /// As a half would put it, if both planners were right.
     fn right(group: &Group) -> Vec<u8> {
-        let mut bytes = [&[3, 0, 0, 0, 0, 0, 0, 0], &b"how"[..]].concat();
-        for round in (1..=2 * ROUNDS as u64).rev() {
-            bytes.extend((round * 1_000).to_le_bytes());
-        }
+        let mut bytes = said_first(ROUNDS as u64);
         for (answer, sheet) in &group.outcomes {
             let no = answer.err().unwrap_or(Refusal::plain(0));
             let numbers = [no.number, no.names, no.mark].map(u32::to_le_bytes);
@@ -204,6 +236,15 @@ mod tests {
                 "2 tables: best product 1.00, Rust 0.50, product/Rust 2.00; median product 13.00";
             assert!(line.contains(wanted), "{line}");
         }
+    }
+
+    #[test]
+    fn a_half_is_asked_to_plan() {
+        let [group, ..] = groups(&mut Random::new(3, "bench"), 1);
+        let input = input(&group);
+        assert_eq!(input[..9], *b"p\x01\0\0\0\0\0\0\0");
+        assert!(input.ends_with(&group.tables[0]));
+        assert_eq!(input.len(), 1 + 4 * 8 + 706);
     }
 
     #[test]

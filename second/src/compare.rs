@@ -4,6 +4,7 @@
 mod list;
 mod plan;
 mod reader;
+mod run;
 mod tally;
 
 use crate::checks::hex;
@@ -13,7 +14,7 @@ use crate::product::Product;
 /// Compares one thing; hands back lines that sum up, or what does not agree.
 type Comparison = fn(&Options, &mut Product) -> Result<Vec<String>, String>;
 
-const COMPARISONS: [Comparison; 3] = [reader::compare, plan::compare, list::compare];
+const COMPARISONS: [Comparison; 4] = [reader::compare, plan::compare, list::compare, run::compare];
 
 /// Makes every comparison, up to the first mismatch.
 pub fn all(options: &Options, mut product: Product) -> Result<(), String> {

@@ -11,15 +11,16 @@
 //!         Holds the paper's own figures and checks this program against itself.
 //!     second compare --product COMMAND [--list COMMAND] [--seed N] [--inputs N]
 //!         The same, and then compares the product with this program: its reader on N inputs or
-//!         more, its planner on some 210,000, and its listing program, if one is given, on some
-//!         1,000. A COMMAND is a path, or words separated by spaces. Both programs are x86-64 code,
-//!         so after second/build it is
+//!         more, its planner on some 210,000, its listing program, if one is given, on some 1,000,
+//!         and its run on some 25,000. A COMMAND is a path, or words separated by spaces. Both
+//!         programs are x86-64 code, so after second/build it is
 //!         --product "tools/run target/second/product" --list "tools/run target/bin/list"
 //!         in the repository's root.
 //!     second bench --half COMMAND [--half COMMAND ..] [--seed N]
 //!         Times the product's planner beside the one in fast.rs, on tables that are planned and on
-//!         tables that are refused. second/bench/build makes the programs that do so, for either
-//!         processor; second/bench/run builds them and times both planners.
+//!         tables that are refused, and its run beside the one in fast_run.rs, on the longest runs
+//!         there are. second/bench/build makes the programs that do so, for either processor;
+//!         second/bench/run builds them and times all.
 //!
 //! A seed makes the random inputs the same again; without one it comes from the clock. The exit
 //! code is 0, or 1 if a figure, a check or a comparison fails, or 2 if the call makes no sense.
@@ -31,6 +32,7 @@ mod bound;
 mod checks;
 mod compare;
 mod fast;
+mod fast_run;
 mod inputs;
 mod lanes;
 mod listing;
@@ -44,6 +46,8 @@ mod random;
 mod rank;
 mod raw;
 mod run;
+mod run_call;
+mod runs;
 mod sheet;
 mod table;
 mod workloads;
@@ -98,7 +102,7 @@ fn command(words: &[&str]) -> Result<(), Trouble> {
         }
         ["bench", rest @ ..] => {
             let options = Options::read(rest, &["--half", "--seed"]).ok_or_else(usage)?;
-            time_planners(&options)
+            time_halves(&options)
         }
         _ => Err(usage()),
     }
@@ -162,7 +166,7 @@ fn compare_product(options: &Options) -> Result<(), Trouble> {
     })
 }
 
-fn time_planners(options: &Options) -> Result<(), Trouble> {
+fn time_halves(options: &Options) -> Result<(), Trouble> {
     if options.halves.is_empty() {
         return Err(usage());
     }

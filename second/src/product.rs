@@ -3,7 +3,9 @@
 //! need not be.
 
 use crate::answer::Refusal;
+use crate::fast_run::Ran;
 use crate::program;
+use crate::run_call::{Outcome, RunCall};
 use std::io::{ErrorKind, Read, Write};
 use std::process::{Child, Stdio};
 use std::sync::mpsc::{self, Receiver, RecvTimeoutError, Sender, SyncSender};
@@ -15,17 +17,20 @@ pub const BATCH: usize = 256;
 /// How long the product may say nothing.
 const PATIENCE: Duration = Duration::from_secs(30);
 const ANSWER_BYTES: usize = 12;
+pub const RAN_BYTES: usize = ANSWER_BYTES + 4 * 192 + 3 * 8;
 /// As many bytes of answers are read at once, and so many parts may wait to be taken.
 const PART_BYTES: usize = 1 << 16;
 const PARTS: usize = 64;
 
-/// The names of kieferntuch_read and kieferntuch_plan.
+/// The names of kieferntuch_read, kieferntuch_plan and kieferntuch_run.
 const READ: u8 = b'r';
 const PLAN: u8 = b'p';
-/// Flags: none, or lend the table or the sheet by a null pointer.
+const RUN: u8 = b'u';
+/// Flags: none, or lend the table, the sheet or the trace, or the arrivals by a null pointer.
 const PLAIN: u8 = 0;
 const NULL_TABLE: u8 = 1;
-const NULL_SHEET: u8 = 2;
+const NULL_OUT: u8 = 2;
+const NULL_ARRIVALS: u8 = 4;
 
 /// The product's process. A thread writes the requests and another reads the answers, so that a
 /// product that stops reading, or answers too much or too little, is seen and not waited for.
@@ -86,6 +91,11 @@ impl Product {
         self.ask(calls.iter().flat_map(plan_frame).collect());
     }
 
+    /// Makes each of the calls; as many answers follow, each with its trace.
+    pub fn ask_to_run(&mut self, calls: &[RunCall]) {
+        self.ask(calls.iter().flat_map(run_frame).collect());
+    }
+
     fn ask(&mut self, frames: Vec<u8>) {
         if let Some(requests) = &self.requests {
             // Where nobody takes it any more, the answer is missing, and that is seen.
@@ -97,10 +107,9 @@ impl Product {
     /// An error if the product does not answer.
     pub fn answer(&mut self) -> Result<Result<(), Refusal>, String> {
         let bytes = self.take(ANSWER_BYTES)?;
-        let part = |at: usize| u32::from_le_bytes([0, 1, 2, 3].map(|place| bytes[at + place]));
-        Ok(match (part(0), part(4), part(8)) {
-            (0, 0, 0) => Ok(()),
-            (number, names, mark) => Err(Refusal {
+        Ok(match [0, 4, 8].map(|at| number_32(&bytes, at)) {
+            [0, 0, 0] => Ok(()),
+            [number, names, mark] => Err(Refusal {
                 number,
                 names,
                 mark,
@@ -111,6 +120,12 @@ impl Product {
     /// The sheet behind an answer, of so many bytes.
     pub fn sheet(&mut self, length: usize) -> Result<Vec<u8>, String> {
         self.take(length)
+    }
+
+    /// The answer to this call, whatever stands in it, and the trace behind it.
+    pub fn ran(&mut self, call: &RunCall) -> Result<Outcome, String> {
+        let ran = read_ran(&self.take(RAN_BYTES)?);
+        Ok((ran, self.take(call.trace_and_guard())?))
     }
 
     /// The next bytes of answers.
@@ -201,7 +216,7 @@ fn frame(function: u8, flags: u8, table: &[u8]) -> Vec<u8> {
 
 fn plan_frame(call: &Call) -> Vec<u8> {
     let null_table = u8::from(call.null_table) * NULL_TABLE;
-    let null_sheet = u8::from(call.null_sheet) * NULL_SHEET;
+    let null_sheet = u8::from(call.null_sheet) * NULL_OUT;
     let mut bytes = frame(PLAN, null_table | null_sheet, &call.table);
     bytes.extend(number(call.at));
     bytes.extend(number(call.sheet.len()));
@@ -209,13 +224,56 @@ fn plan_frame(call: &Call) -> Vec<u8> {
     bytes
 }
 
+fn run_frame(call: &RunCall) -> Vec<u8> {
+    let null_table = u8::from(call.null_table()) * NULL_TABLE;
+    let null_trace = u8::from(call.null_trace()) * NULL_OUT;
+    let null_arrivals = u8::from(call.null_arrivals()) * NULL_ARRIVALS;
+    let flags = null_table | null_trace | null_arrivals;
+    let mut bytes = frame(RUN, flags, &call.table);
+    bytes.extend(number(call.arrivals.len()));
+    bytes.extend(call.record_bytes());
+    for this in [call.from, call.ticks, call.trace] {
+        bytes.extend(number(this));
+    }
+    bytes.push(call.fill);
+    bytes
+}
+
 fn number(number: usize) -> [u8; 8] {
     (number as u64).to_le_bytes()
+}
+
+/// A run's answer in `RAN_BYTES` bytes.
+pub fn read_ran(bytes: &[u8]) -> Ran {
+    let counts = RAN_BYTES - 3 * 8;
+    let mut ran = Ran {
+        number: number_32(bytes, 0),
+        names: number_32(bytes, 4),
+        mark: number_32(bytes, 8),
+        worst: [0; 192],
+        jobs: number_64(bytes, counts),
+        run: number_64(bytes, counts + 8),
+        owed: number_64(bytes, counts + 16),
+    };
+    for (place, worst) in ran.worst.iter_mut().enumerate() {
+        *worst = number_32(bytes, ANSWER_BYTES + 4 * place);
+    }
+    ran
+}
+
+fn number_32(bytes: &[u8], at: usize) -> u32 {
+    u32::from_le_bytes([0, 1, 2, 3].map(|place| bytes[at + place]))
+}
+
+fn number_64(bytes: &[u8], at: usize) -> u64 {
+    let high = u64::from(number_32(bytes, at + 4));
+    high << 32 | u64::from(number_32(bytes, at))
 }
 
 #[cfg(test)]
 mod tests {
     use super::*;
+    use crate::run::Arrival;
 
     /// A request with two bytes is as long as an answer, and `cat` sends it back.
     #[test]
@@ -252,6 +310,57 @@ mod tests {
         ];
         assert_eq!(echo.sheet(31)?, wanted.concat());
         echo.finish()
+    }
+
+    #[test]
+    fn a_request_to_run() -> Result<(), String> {
+        let mut echo = Product::start("cat")?;
+        let arrival = |tick| Arrival {
+            tick,
+            row: 2,
+            lengths: [3, 4, 5],
+        };
+        let call = RunCall {
+            table: vec![7; 3],
+            arrivals: vec![arrival(0x01_0203), arrival(u32::MAX.into())],
+            from: usize::MAX - 1,
+            ticks: 9,
+            trace: 0,
+            fill: 0xee,
+            nulls: true,
+        };
+        echo.ask_to_run(&[call]);
+        let rest = [2, 0, 0, 0, 3, 0, 0, 0, 4, 0, 0, 0, 5, 0, 0, 0];
+        let wanted = [
+            &[b'u', 2, 3, 0, 0, 0, 0, 0, 0, 0, 7, 7, 7][..],
+            &[2, 0, 0, 0, 0, 0, 0, 0, 3, 2, 1, 0],
+            &rest,
+            &[0xff; 4],
+            &rest,
+            &[0xfe, 0xff, 0xff, 0xff, 0xff, 0xff, 0xff, 0xff],
+            &[9, 0, 0, 0, 0, 0, 0, 0],
+            &[0, 0, 0, 0, 0, 0, 0, 0, 0xee],
+        ];
+        assert_eq!(echo.sheet(wanted.concat().len())?, wanted.concat());
+        echo.finish()
+    }
+
+    /// Each number from its own bytes.
+    #[test]
+    fn an_answer_of_a_run() {
+        let bytes: Vec<u8> = (0..RAN_BYTES).map(|place| (place / 4) as u8).collect();
+        let ran = read_ran(&bytes);
+        let all = |number: u64| (number % 256) * 0x0101_0101;
+        assert_eq!(
+            (ran.number, ran.names, ran.mark),
+            (0, 0x0101_0101, 0x0202_0202)
+        );
+        assert_eq!(
+            [ran.worst[0], ran.worst[191]].map(u64::from),
+            [all(3), all(194)]
+        );
+        let counts = [195, 197, 199].map(|place| all(place + 1) << 32 | all(place));
+        assert_eq!([ran.jobs, ran.run, ran.owed], counts);
     }
 
     #[test]

@@ -180,7 +180,7 @@ pub fn arrivals(random: &mut Random, table: &Table, end: u64) -> Vec<Arrival> {
 }
 
 /// A length up to the table's, often 0 or all of it.
-fn some_length(random: &mut Random, most: u64) -> u64 {
+pub fn some_length(random: &mut Random, most: u64) -> u64 {
     match random.within(0, 3) {
         0 => 0,
         1 => most,

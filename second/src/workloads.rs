@@ -188,6 +188,16 @@ pub fn largest(random: &mut Random) -> Vec<u8> {
     Shape::largest(random).table(random).bytes()
 }
 
+/// As many rows and processors as there can be, with periods in these limits.
+pub fn largest_within(random: &mut Random, shortest: u64, longest: u64) -> RawTable {
+    let shape = Shape {
+        shortest,
+        longest,
+        ..Shape::largest(random)
+    };
+    shape.table(random)
+}
+
 /// Lengths grow in 64 steps from next to nothing to too much; the last step that is planned, or
 /// the one behind it.
 fn at_the_edge(random: &mut Random) -> Vec<u8> {
@@ -196,15 +206,50 @@ fn at_the_edge(random: &mut Random) -> Vec<u8> {
         ..Shape::any(random)
     };
     let full = shape.table(random);
+    let planned = last_planned(&full, |table| is_planned(&table.bytes()));
+    part_of(&full, random.pick(&[planned, planned + 1])).bytes()
+}
+
+/// The last of the 64 steps to this table that is planned, if it is not the table itself.
+fn last_planned(full: &RawTable, is_planned: impl Fn(&RawTable) -> bool) -> u64 {
     let (mut planned, mut refused) = (0, 64);
     while planned + 1 < refused {
         let between = (planned + refused) / 2;
-        match is_planned(&part_of(&full, between).bytes()) {
+        match is_planned(&part_of(full, between)) {
             true => planned = between,
             false => refused = between,
         }
     }
-    part_of(&full, random.pick(&[planned, refused])).bytes()
+    planned
+}
+
+/// 64 rows on 16 processors with lengths at the edge of what can be planned under both protocols;
+/// in a million ticks each row can arrive about 64 times.
+pub fn busiest(random: &mut Random) -> RawTable {
+    let shape = Shape {
+        n: 64,
+        m: 16,
+        shortest: 12_000,
+        longest: 20_000,
+        load: 80,
+        section: 30,
+        resources: 16,
+        without: 10,
+    };
+    let full = shape.table(random);
+    let both = |table: &RawTable| [0, 1].map(|protocol| under(protocol, table));
+    let planned = last_planned(&full, |table| {
+        both(table).iter().all(|table| is_planned(&table.bytes()))
+    });
+    part_of(&full, planned)
+}
+
+/// The table with this protocol.
+pub fn under(protocol: u64, table: &RawTable) -> RawTable {
+    RawTable {
+        protocol,
+        ..table.clone()
+    }
 }
 
 /// The table with so many 64ths of each length; a section keeps a tick, and so does a row.

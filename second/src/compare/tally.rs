@@ -29,6 +29,10 @@ impl<const N: usize> Tally<N> {
         self.counts
     }
 
+    pub fn enough(&self) -> Result<(), String> {
+        self.enough_in_one_of(1)
+    }
+
     pub fn words(&self) -> String {
         let both = self.counted.iter().zip(self.counts);
         let words: Vec<String> = both
@@ -37,8 +41,10 @@ impl<const N: usize> Tally<N> {
         words.join(", ")
     }
 
-    pub fn enough(&self) -> Result<(), String> {
+    /// Where one in so many was counted of what is to be there in all.
+    pub fn enough_in_one_of(&self, part: usize) -> Result<(), String> {
         for (&(what, least), count) in self.counted.iter().zip(self.counts) {
+            let least = least / part;
             if count < least {
                 return Err(format!("{count} {what}, fewer than {least}"));
             }
