@@ -1,5 +1,5 @@
 -- What releases and units keep: a good job stays one, its counts grow by little, and a running part has something left.
-use Prim.Native.Nat.{ℕ, _+_, _-_, _≤_, _<_}
+use Prim.Native.Nat.{ℕ, zero, suc, _+_, _-_, _≤_, _<_}
 use mathlib.Core.Path.{_≡_, refl, _∙_, ap}
 use mathlib.Core.Bool.{Bool, true, false, cond}
 use mathlib.Core.List.{List}
@@ -7,7 +7,7 @@ use mathlib.Core.Option.{Option, none, some}
 use native.Mathlib.Omega.{arith}
 use Rattle.chain.specs.Job.{Place, Idle, Waiting, Running, Job, isIdle, moved}
 use Rattle.chain.specs.Release.{enter, wake, fresh, admit, released}
-use Rattle.chain.specs.Unit.{running, next, unitOf}
+use Rattle.chain.specs.Unit.{mark, running, next, unitOf}
 use Rattle.chain.specs.Good.{partOf, GoodJob}
 use Rattle.chain.proofs.Cases.{enter-cases, next-cases, wake-cases, admit-cases, unit-cases}
 
@@ -28,6 +28,12 @@ ended-moved x p = go (isIdle p)
     go : (b : Bool) → x .ended + cond b 1 0 ≤ x .ended + 1
     go true = omega arith
     go false = omega arith
+
+-- the mark of a tick is the largest so far
+mark-le : (t b : ℕ) → b ≤ t → mark t b ≤ suc t
+unfolding mark
+mark-le t zero h = omega arith
+mark-le t (suc b) h = omega arith
 
 module _ (bounds : List ℕ) (i t : ℕ) where
   part-enter : (a n j : ℕ) (ls : List ℕ) → n + j ≤ 3 → partOf (enter bounds i a ls t n j) < 3
@@ -50,6 +56,10 @@ module _ (bounds : List ℕ) (i t : ℕ) where
     unfolding moved
     ran-wake = wake-cases bounds i t (λ y. y .ran ≡ x .ran) x refl (λ u j e. refl)
 
+    begun-wake : wake bounds i t x .begun ≤ x .begun
+    unfolding moved
+    begun-wake = wake-cases bounds i t (λ y. y .begun ≤ x .begun) x (omega arith) (λ u j e. omega arith)
+
     left-wake : HasLeft (x .place) → HasLeft (wake bounds i t x .place)
     unfolding moved
     left-wake h = wake-cases bounds i t (λ y. HasLeft (y .place)) x h (λ u j e. left-enter (x .arrived) (3 - j) j (x .lens))
@@ -71,6 +81,10 @@ module _ (bounds : List ℕ) (i t : ℕ) where
     unfolding moved
     ran-admit = admit-cases bounds i t (λ y. y .ran ≡ x .ran) x refl (λ ls. refl)
 
+    begun-admit : (came : Option (List ℕ)) → admit bounds i t x came .begun ≤ x .begun
+    unfolding moved
+    begun-admit = admit-cases bounds i t (λ y. y .begun ≤ x .begun) x (omega arith) (λ ls. omega arith)
+
     left-admit : HasLeft (x .place) → (came : Option (List ℕ)) → HasLeft (admit bounds i t x came .place)
     unfolding moved
     left-admit h = admit-cases bounds i t (λ y. HasLeft (y .place)) x h (λ ls. left-enter t 3 0 ls)
@@ -85,6 +99,9 @@ module _ (bounds : List ℕ) (i t : ℕ) where
 
     pub ran-released : (came : Option (List ℕ)) → released bounds i t x came .ran ≡ x .ran
     ran-released came = ran-admit (wake bounds i t x) came ∙ ran-wake x
+
+    pub begun-released : (came : Option (List ℕ)) → released bounds i t x came .begun ≤ x .begun
+    begun-released came = omega (arith, begun-wake x, begun-admit (wake bounds i t x) came)
 
     pub left-released : HasLeft (x .place) → (came : Option (List ℕ)) → HasLeft (released bounds i t x came .place)
     left-released h = left-admit (wake bounds i t x) (left-wake x h)
@@ -103,6 +120,10 @@ module _ (bounds : List ℕ) (i t : ℕ) where
     pub ran-unit : unitOf bounds i t x j l .ran ≡ x .ran + 1
     unfolding moved
     ran-unit = unit-cases bounds i t (λ y. y .ran ≡ x .ran + 1) x j l (λ m. refl) (λ m. refl)
+
+    pub begun-unit : x .begun ≤ t → unitOf bounds i t x j l .begun ≤ suc t
+    unfolding moved
+    begun-unit h = unit-cases bounds i t (λ y. y .begun ≤ suc t) x j l (λ m. mark-le t (x .begun) h) (λ m. omega arith)
 
     pub left-unit : HasLeft (unitOf bounds i t x j l .place)
     unfolding moved

@@ -20,7 +20,12 @@ pub record GoodJob (x : Job) : Type 0 where
   pub arrived : x .arrived ≤ 1000000
   pub part : partOf (x .place) < 3
 
--- the counts of a job before tick t: at most three ends a tick, and one unit
+-- the counts of a job before tick t: at most three ends a tick, and one unit; and its begun mark, one more than a tick before
 pub record Small (t : ℕ) (x : Job) : Type 0 where
   pub ended : x .ended ≤ 3 * t
   pub ran : x .ran ≤ t
+  pub begun : x .begun ≤ t
+
+-- k ticks are left of the part that a job runs
+abbrev pub Lasts : ℕ → Place → Type 0
+Lasts k p = (j l : ℕ) → p ≡ Running j l → k ≤ l

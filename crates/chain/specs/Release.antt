@@ -12,6 +12,10 @@ unfoldable pub off : List ℕ → ℕ → ℕ → ℕ
 off bounds i zero = 0
 off bounds i (suc j) = off bounds i j + getD bounds (3 * i + j) 0
 
+-- later than every tick
+abbrev pub never : ℕ
+never = 4294967295
+
 module _ (bounds : List ℕ) (i : ℕ) where
   -- "Stage one is released at a, the section at a + D1, stage two at a + D1 + S, fixed, however early the one before ended."
   abbrev pub release : ℕ → ℕ → ℕ
@@ -68,3 +72,12 @@ module _ (bounds : List ℕ) (i : ℕ) where
 
   unfoldable pub late : ℕ → Job → Option (List ℕ) → Bool
   late t x came = tooSoon (wake t x) came || overdue t (released t x came)
+
+  -- the next tick with a release of the job: of what it waits for, or of the part behind its running one
+  unfoldable pub dueAt : ℕ → Place → ℕ
+  dueAt a Idle = never
+  dueAt a (Waiting u j) = u
+  dueAt a (Running j l) = cond (ltb j 2) (release a (suc j)) never
+
+  abbrev pub dueOf : Job → ℕ
+  dueOf x = dueAt (x .arrived) (x .place)

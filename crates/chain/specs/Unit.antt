@@ -30,3 +30,24 @@ module _ (bounds : List ℕ) (i : ℕ) where
       cond (ltb 1 l)
       (running t x (Running j (l - 1)))
       (moved (running t x (next (x .arrived) j)) (next (x .arrived) j))
+
+-- the job when its part j, with l ticks left, has run k units from tick t on, and has not ended
+unfoldable pub pushed : ℕ → ℕ → Job → ℕ → ℕ → Job
+pushed t zero x j l = x
+pushed t (suc k) x j l =
+    record {
+      place = Running j (l - suc k);
+      arrived = x .arrived;
+      lens = x .lens;
+      begun = mark t (x .begun);
+      ended = x .ended;
+      ran = x .ran + suc k;
+    }
+
+unfoldable pub pushAt : ℕ → ℕ → Job → Place → Job
+pushAt t k x Idle = x
+pushAt t k x (Waiting u j) = x
+pushAt t k x (Running j l) = pushed t k x j l
+
+abbrev pub push : ℕ → ℕ → Job → Job
+push t k x = pushAt t k x (x .place)

@@ -4,10 +4,10 @@ ghost use mathlib.Core.Bool.{Bool, cond};
 ghost use mathlib.Core.Option.{some, none};
 ghost use Prim.Native.Nat.{ℕ, _+_, _-_, _*_, _<_, _≤_};
 ghost use Rattle.chain.specs.Job.{moved as Job·moved, isIdle};
-ghost use Rattle.chain.specs.Release.{release, enter as Release·enter, wake as Release·wake, admit as Release·admit, overdue as Release·overdue, released, late};
-ghost use Rattle.chain.specs.Unit.{response as Unit·response, next as Unit·next, running as Unit·running, unitOf};
+ghost use Rattle.chain.specs.Release.{release, enter as Release·enter, wake as Release·wake, admit as Release·admit, overdue as Release·overdue, released, late, dueOf};
+ghost use Rattle.chain.specs.Unit.{mark as Unit·mark, response as Unit·response, next as Unit·next, running as Unit·running, unitOf, push as Unit·push};
 ghost use Rattle.chain.specs.Owed.{owes, lensFrom};
-ghost use Rattle.chain.specs.Good.{GoodBounds, GoodJob};
+ghost use Rattle.chain.specs.Good.{GoodBounds, GoodJob, Lasts};
 
 // A task is idle, waits until a named tick for the release of a part, or runs a part with ticks left. Part 0 is stage one,
 // part 1 the section, part 2 stage two.
@@ -187,6 +187,24 @@ pub fn release_job(
     }
 }
 
+// The next tick with a release of row i's job; 4,294,967,295, later than every tick, if there is none.
+pub fn due_of(bounds: &[u32; 192], i: usize, x: Job) -> u32
+    requires { ⌜ (i < 64) × GoodBounds (now bounds) × GoodJob x ⌝ }
+    ensures { λ r. ⌜ r ≡ dueOf (now (bounds .entry)) i x ⌝ }
+{
+    let p = x.place;
+    match p {
+        Place::Idle => 4294967295,
+        Place::Waiting { until, part: _ } => until,
+        Place::Running { part, left: _ } => {
+            if part >= 2 {
+                return 4294967295;
+            }
+            release_of(bounds, i, x.arrived, part as usize + 1)
+        }
+    }
+}
+
 // How long a part has taken that ends with the unit of tick t.
 pub fn response(bounds: &[u32; 192], i: usize, t: u32, arrived: u32, part: u32) -> u32
     requires { ⌜ (i < 64) × GoodBounds (now bounds) × (t ≤ 1000000) × (arrived ≤ 1000000) × (part < 3) ⌝ }
@@ -211,6 +229,17 @@ fn after(bounds: &[u32; 192], i: usize, arrived: u32, part: u32) -> Place
     }
 }
 
+// The begun mark of a part that has run in tick t: it stays, if it ran before.
+fn mark(t: u32, begun: u32) -> u32
+    requires { ⌜ t ≤ 1000000 ⌝ }
+    ensures { λ r. ⌜ r ≡ Unit·mark t begun ⌝ }
+{
+    if begun == 0 {
+        return t + 1;
+    }
+    begun
+}
+
 // A job in another place, and one unit more run, in tick t.
 fn running(t: u32, x: Job, p: Place) -> Job
     requires { ⌜ (t ≤ 1000000) × (x .ran < 4294967295) ⌝ }
@@ -218,7 +247,7 @@ fn running(t: u32, x: Job, p: Place) -> Job
 {
     let lens = x.lens;
     let ran = x.ran + 1;
-    let begun = if x.begun == 0 { t + 1 } else { x.begun };
+    let begun = mark(t, x.begun);
     Job {
         place: p,
         arrived: x.arrived,
@@ -244,6 +273,34 @@ pub fn unit(bounds: &[u32; 192], i: usize, t: u32, x: Job, part: u32, left: u32)
     let p = after(bounds, i, x.arrived, part);
     let ran = running(t, x, p);
     moved(ran, p)
+}
+
+// A job whose running part has run k units from tick t on, and has not ended.
+pub fn push(x: Job, t: u32, k: u32) -> Job
+    requires { ⌜ (t ≤ 1000000) × (x .ran + k < 4294967296) × Lasts k (x .place) ⌝ }
+    ensures { λ r. ⌜ r ≡ Unit·push t k x ⌝ }
+{
+    if k == 0 {
+        return x;
+    }
+    let p = x.place;
+    let Place::Running { part, left } = p else {
+        return x;
+    };
+    let place = Place::Running {
+        part,
+        left: left - k,
+    };
+    let lens = x.lens;
+    let begun = mark(t, x.begun);
+    Job {
+        place,
+        arrived: x.arrived,
+        lens,
+        begun,
+        ended: x.ended,
+        ran: x.ran + k,
+    }
 }
 
 // The sum of the lengths from this part on.

@@ -7,7 +7,7 @@ use native.Mathlib.Omega.{arith}
 use native.Mathlib.Decide.{decLt}
 use native.Mathlib.Numerals.{add-one}
 use native.Mathlib.Nat.{add-zero, add-suc, mul-suc, sub-zero}
-use lib.ListN.{length, getD, set, replicate, length-append, length-replicate, getD-replicate, List·getD-append}
+use lib.ListN.{length, getD, set, replicate, replicate-append-replicate, length-append, length-replicate, getD-replicate, List·getD-append}
 use lib.Seq.{set-at, getD-at, getD-append-add}
 use Rattle.lists.specs.Tab.{tab, joined, blank, filled}
 
@@ -25,6 +25,12 @@ getD-tab (suc n) f k d h =
     (λ l.
     let e : k ≡ n = omega arith in
     rw e (getD-at (tab n f) (f n) [] d n (length-tab n f)))
+
+-- lists that agree at each place
+pub tab-same : {A : Type 0} (n : ℕ) (f g : ℕ → A) → ((i : ℕ) → i < n → f i ≡ g i) → tab n f ≡ tab n g
+unfolding tab
+tab-same zero f g h = refl
+tab-same (suc n) f g h = rw (tab-same n f g (λ i l. h i (omega arith)), h n (omega arith))
 
 -- a list by its first places and the others
 pub tab-append : {A : Type 0} (m n : ℕ) (f : ℕ → A) → tab (m + n) f ≡ tab m f ++ tab n (λ i. f (m + i))
@@ -79,6 +85,24 @@ module _ {A : Type 0} (size : ℕ) (z : A) (f : ℕ → A) where
   pub length-filled : (n : ℕ) → n ≤ size → length (filled size z n f) ≡ size
   unfolding filled
   length-filled n h = omega (arith, length-append (tab n f) (replicate (size - n) z), length-tab n f, length-replicate (size - n) z)
+
+-- arrays that agree at each filled place
+pub filled-same : {A : Type 0} (size : ℕ) (z : A) (n : ℕ) (f g : ℕ → A) → ((i : ℕ) → i < n → f i ≡ g i) → filled size z n f ≡ filled size z n g
+unfolding filled
+filled-same size z n f g h = rw (tab-same n f g h)
+
+-- a list with the same at each place
+tab-const : {A : Type 0} (n : ℕ) (z : A) (f : ℕ → A) → ((i : ℕ) → i < n → f i ≡ z) → tab n f ≡ replicate n z
+unfolding tab
+tab-const zero z f h = refl
+tab-const (suc n) z f h = rw (tab-const n z f (λ i l. h i (omega arith)), h n (omega arith)) (replicate-append-replicate n 1 z ∙ ap (λ (k : ℕ). replicate k z) (add-one n))
+
+-- an array given at each place, with z from place n on
+pub tab-filled : {A : Type 0} (size : ℕ) (z : A) (n : ℕ) (f g : ℕ → A) → n ≤ size → ((i : ℕ) → i < n → f i ≡ g i) → ((i : ℕ) → n ≤ i → i < size → f i ≡ z) → tab size f ≡ filled size z n g
+unfolding filled
+tab-filled size z n f g h same rest =
+    let e : size ≡ n + (size - n) = omega arith in
+    ap (λ (k : ℕ). tab k f) e ∙ tab-append n (size - n) f ∙ rw (tab-same n f g same, tab-const (size - n) z (λ i. f (n + i)) (λ i l. rest (n + i) (omega arith) (omega arith)))
 
 -- no place of a blank array differs, nor does what is read past its end
 pub getD-blank : {A : Type 0} (size : ℕ) (z : A) (k : ℕ) → getD (blank size z) k z ≡ z

@@ -1,4 +1,3 @@
-pub mod Places
 pub mod Threes
 pub mod Served
 pub mod Keep
@@ -6,3 +5,5 @@ pub mod Releasing
 pub mod Sums
 pub mod Rows
 pub mod Ticks
+pub mod Npp
+pub mod Worst

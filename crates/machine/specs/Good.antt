@@ -4,14 +4,15 @@ use mathlib.Core.Path.{_≡_}
 use mathlib.Core.List.{List}
 use lib.ListN.{getD, length}
 use Rattle.chain.specs.declared.Job.{Job}
-use Rattle.chain.specs.Job.{jobAt}
+use Rattle.chain.specs.Job.{noJob, jobAt}
+use Rattle.chain.specs.Release.{dueOf}
 use Rattle.chain.specs.Good.{GoodBounds, GoodJob, Small}
+use Rattle.jobs.specs.Numbers.{jobIn, jobsIn}
 use Rattle.picks.specs.Good.{GoodHomes}
 use Rattle.arrivals.specs.declared.Arrival.{Arrival}
 use Rattle.arrivals.specs.Arrival.{brings}
 use Rattle.arrivals.specs.Seek.{GoodArrivals, Seek}
 use Rattle.machine.specs.Chart.{Chart}
-use Rattle.machine.specs.Tick.{releases, bytes, worse, step}
 
 pub record GoodChart (c : Chart) : Type 0 where
   pub processors : c .m ≤ 16
@@ -32,10 +33,15 @@ pub record Coming (n : ℕ) (xs : List Arrival) (next t : ℕ) : Type 0 where
   pub few : length xs ≤ 4096
   pub seek : Seek xs next (t * 64 + 1)
 
--- one tick of the machine, from these jobs and worst responses, where nothing is released too early: the jobs, the place in the
--- arrivals, the worst responses and the bytes that it leaves
-pub record Went (c : Chart) (xs : List Arrival) (t : ℕ) (js : List Job) (worst : List ℕ) (js′ : List Job) (next : ℕ) (worst′ lane : List ℕ) : Type 0 where
-  pub jobs : js′ ≡ step c (brings xs) t js
-  pub coming : Coming (c .n) xs next (suc t)
-  pub noted : worst′ ≡ worse c t (releases (c .n) (c .bounds) (brings xs) t js) worst
-  pub shown : lane ≡ bytes c (releases (c .n) (c .bounds) (brings xs) t js)
+-- the next tick with a release of each row stands in a column
+abbrev pub Dues : ℕ → List ℕ → List Job → List ℕ → Type 0
+Dues n bounds js dues = (i : ℕ) → i < n → getD dues i 0 ≡ dueOf bounds i (jobAt js i)
+
+-- the numbers of n rows before tick t, and the column of their next releases; past row n no task has arrived
+pub record Held (n : ℕ) (bounds : List ℕ) (t : ℕ) (flat dues : List ℕ) : Type 0 where
+  pub few : n ≤ 64
+  pub whole : length flat ≡ 576
+  pub column : length dues ≡ 64
+  pub good : GoodJobs n t (jobsIn flat)
+  pub past : (i : ℕ) → n ≤ i → i < 64 → jobIn flat i ≡ noJob
+  pub dues-are : Dues n bounds (jobsIn flat) dues

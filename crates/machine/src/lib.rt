@@ -1,19 +1,21 @@
 // The machine: one tick after the other.
 ghost use mathlib.Core.Path.{_≡_};
 ghost use Prim.Native.Nat.{ℕ, suc, _+_, _*_, _<_, _≤_, max};
-ghost use lib.ListN.{length, getD};
+ghost use lib.ListN.{length, getD, set};
 ghost use lib.Seq.{sets};
 ghost use mathlib.Core.List.{[], _∷_};
-ghost use Rattle.lists.specs.Tab.{tab, blank, filled};
+ghost use mathlib.Core.Bool.{true, cond};
+ghost use mathlib.Core.Option.{some, none};
+ghost use Rattle.lists.specs.Tab.{tab, blank};
 ghost use Rattle.table.specs.Good.{GoodTable};
-ghost use Rattle.chain.specs.Job.{noJob, jobAt};
+ghost use Rattle.chain.specs.Release.{released, late, dueOf};
 ghost use Rattle.chain.specs.Good.{GoodBounds, GoodJob, partOf};
-ghost use Rattle.picks.specs.Good.{GoodHomes, GoodPlaces};
-ghost use Rattle.arrivals.specs.Arrival.{arrivalsOf, brings};
-ghost use Rattle.machine.specs.Chart.{chart as Chart·chart, threes, chartOf};
-ghost use Rattle.machine.specs.Tick.{serve, kindOf, byteOf, notedAt, notedTo, releases, lateRow};
+ghost use Rattle.jobs.specs.Numbers.{jobIn, jobsIn};
+ghost use Rattle.arrivals.specs.Arrival.{arrivalAt, arrivalsOf, brings};
+ghost use Rattle.machine.specs.Chart.{threes, chartOf};
+ghost use Rattle.machine.specs.Tick.{serve, kindOf, byteOf, notedAt, releases, lateRow};
 ghost use Rattle.machine.specs.Counts.{tallyOf};
-ghost use Rattle.machine.specs.Good.{GoodChart, GoodJobs, Coming, Went};
+ghost use Rattle.machine.specs.Good.{Dues, Held, Coming};
 use chain::Job;
 use chain::Place;
 use plan::Plan;
@@ -37,10 +39,9 @@ pub struct Tally {
     pub owed: u64,
 }
 
-// The jobs after a tick and the place that the arrivals have come to; or as they were, and the first row, counted from 0, with a
-// release that comes too early: n if there is none.
-pub struct Ticked {
-    pub jobs: [Job; 64],
+// The place that the arrivals have come to, and the first row, counted from 0, with a release that comes too early: n if there is
+// none.
+pub struct Reached {
     pub next: usize,
     pub late: usize,
 }
@@ -101,67 +102,114 @@ pub fn chart_of(t: Table, p: Plan) -> Chart
     }
 }
 
-// 64 tasks that have not arrived yet.
-pub fn no_jobs() -> [Job; 64]
-    ensures { λ r. ⌜ r ≡ blank 64 noJob ⌝ }
+// The releases of row i in tick t, where an arrival brings these lengths, or none comes; whether one comes too early.
+fn release_row(
+    jobs: &mut [u32],
+    due: &mut [u32],
+    bounds: &[u32; 192],
+    i: usize,
+    t: u32,
+    came: bool,
+    lens: [u32; 3],
+) -> bool
+    requires { ⌜ (i < 64) × (t < 1000000) × GoodBounds (now bounds) × (length (now jobs) ≡ 576) × (length (now due) ≡ 64) × GoodJob (jobIn (now jobs) i) × (jobIn (now jobs) i .ended < 4294967294) ⌝ }
+    ensures { λ r. ⌜ (jobsIn (now (jobs .exit)) ≡ set (jobsIn (now (jobs .entry))) i (released (now (bounds .entry)) i t (jobIn (now (jobs .entry)) i) (cond came (some lens) none)))
+        × (now (due .exit) ≡ set (now (due .entry)) i (dueOf (now (bounds .entry)) i (released (now (bounds .entry)) i t (jobIn (now (jobs .entry)) i) (cond came (some lens) none))))
+        × (r ≡ late (now (bounds .entry)) i t (jobIn (now (jobs .entry)) i) (cond came (some lens) none))
+        × (length (now (jobs .exit)) ≡ 576) ⌝ }
 {
-    let none = Job {
-        place: Place::Idle,
-        arrived: 0,
-        lens: [0u32; 3],
-        begun: 0,
-        ended: 0,
-        ran: 0,
-    };
-    [none; 64]
+    let x = jobs::job_at(jobs, i);
+    let r = chain::release_job(bounds, i, t, x, came, lens);
+    let job = r.job;
+    jobs::put_job(jobs, i, job);
+    due[i] = chain::due_of(bounds, i, job);
+    r.late
 }
 
-// The jobs once the releases of a tick are in, unless one comes too early.
-fn release_all(
-    jobs: [Job; 64],
+// A tick before which none of n rows has a release.
+pub fn soonest(due: &[u32], n: usize) -> u32
+    requires { ⌜ (n ≤ 64) × (length (now due) ≡ 64) ⌝ }
+    ensures { λ r. ⌜ ((i : ℕ) → i < n → r ≤ getD (now (due .entry)) i 0) ⌝ }
+{
+    let mut tick = 4294967295u32;
+    for i in 0..n {
+        let d = due[i];
+        if d < tick {
+            tick = d;
+        }
+    }
+    tick
+}
+
+// Whether no row has a release in tick t: none of n is due, and none of the arrivals from place `next` on comes.
+fn nothing_due(due: &[u32], n: usize, t: u32, flat: &[u32], count: usize, next: usize) -> bool
+    requires { ⌜ (n ≤ 64) × (length (now due) ≡ 64) × (count ≤ 4096) × (length (now flat) ≡ 20480) ⌝ }
+    ensures { λ r. ⌜ (r ≡ true → ((i : ℕ) → i < n → t < getD (now (due .entry)) i 0) × (next < count → t < arrivalAt (arrivalsOf (now (flat .entry)) count) next .tick)) ⌝ }
+{
+    if next < count {
+        if flat[5 * next] <= t {
+            return false;
+        }
+    }
+    t < soonest(due, n)
+}
+
+// The releases of a tick: each row's, unless one comes too early.
+fn release_each(
+    jobs: &mut [u32],
+    due: &mut [u32],
     bounds: &[u32; 192],
     n: usize,
     t: u32,
     flat: &[u32],
     count: usize,
     next: usize,
-) -> Ticked
-    requires { ⌜ (n ≤ 64) × (t < 1000000) × GoodBounds (now bounds) × GoodJobs n t jobs × (count ≤ 4096) × (length (now flat) ≡ 20480) × Coming n (arrivalsOf (now flat) count) next t ⌝ }
-    ensures { λ r. ⌜ (r .late ≡ lateRow n (now (bounds .entry)) (brings (arrivalsOf (now (flat .entry)) count)) t jobs) × (r .late ≡ n → (r .jobs ≡ releases n (now (bounds .entry)) (brings (arrivalsOf (now (flat .entry)) count)) t jobs) × Coming n (arrivalsOf (now (flat .entry)) count) (r .next) (suc t)) ⌝ }
+) -> Reached
+    requires { ⌜ (t < 1000000) × GoodBounds (now bounds) × Held n (now bounds) t (now jobs) (now due) × (count ≤ 4096) × (length (now flat) ≡ 20480) × Coming n (arrivalsOf (now flat) count) next t ⌝ }
+    ensures { λ r. ⌜ (length (now (jobs .exit)) ≡ 576) × (length (now (due .exit)) ≡ 64) × (r .late ≡ lateRow n (now (bounds .entry)) (brings (arrivalsOf (now (flat .entry)) count)) t (jobsIn (now (jobs .entry))))
+        × (r .late ≡ n → (jobsIn (now (jobs .exit)) ≡ releases n (now (bounds .entry)) (brings (arrivalsOf (now (flat .entry)) count)) t (jobsIn (now (jobs .entry)))) × Dues n (now (bounds .entry)) (jobsIn (now (jobs .exit))) (now (due .exit)) × Coming n (arrivalsOf (now (flat .entry)) count) (r .next) (suc t)) ⌝ }
 {
-    let mut out = no_jobs();
     let mut at = next;
     for i in 0..n {
-        let x = jobs[i];
         let came = arrivals::comes(flat, count, at, t, i);
-        let lens = if came {
-            arrivals::lens_at(flat, count, at)
-        } else {
-            [0u32; 3]
-        };
-        let r = chain::release_job(bounds, i, t, x, came, lens);
-        if r.late {
-            return Ticked {
-                jobs,
-                next,
-                late: i,
-            };
-        }
-        let job = r.job;
-        out[i] = job;
         if came {
+            let lens = arrivals::lens_at(flat, count, at);
+            if release_row(jobs, due, bounds, i, t, true, lens) {
+                return Reached { next, late: i };
+            }
             at += 1;
+        } else if due[i] <= t {
+            if release_row(jobs, due, bounds, i, t, false, [0u32; 3]) {
+                return Reached { next, late: i };
+            }
         }
     }
-    Ticked {
-        jobs: out,
-        next: at,
-        late: n,
+    Reached { next: at, late: n }
+}
+
+// The releases of a tick, where it has any.
+pub fn release_rows(
+    jobs: &mut [u32],
+    due: &mut [u32],
+    bounds: &[u32; 192],
+    n: usize,
+    t: u32,
+    flat: &[u32],
+    count: usize,
+    next: usize,
+) -> Reached
+    requires { ⌜ (t < 1000000) × GoodBounds (now bounds) × Held n (now bounds) t (now jobs) (now due) × (count ≤ 4096) × (length (now flat) ≡ 20480) × Coming n (arrivalsOf (now flat) count) next t ⌝ }
+    ensures { λ r. ⌜ (length (now (jobs .exit)) ≡ 576) × (length (now (due .exit)) ≡ 64) × (r .late ≡ lateRow n (now (bounds .entry)) (brings (arrivalsOf (now (flat .entry)) count)) t (jobsIn (now (jobs .entry))))
+        × (r .late ≡ n → (jobsIn (now (jobs .exit)) ≡ releases n (now (bounds .entry)) (brings (arrivalsOf (now (flat .entry)) count)) t (jobsIn (now (jobs .entry)))) × Dues n (now (bounds .entry)) (jobsIn (now (jobs .exit))) (now (due .exit)) × Coming n (arrivalsOf (now (flat .entry)) count) (r .next) (suc t)) ⌝ }
+{
+    if nothing_due(due, n, t, flat, count, next) {
+        return Reached { next, late: n };
     }
+    release_each(jobs, due, bounds, n, t, flat, count, next)
 }
 
 // Row i's job after a tick: it runs a unit where the processor of its running part picks it.
-fn serve_job(
+pub fn serve_job(
     x: Job,
     i: usize,
     picked: &[u32; 17],
@@ -184,27 +232,6 @@ fn serve_job(
     chain::unit(bounds, i, t, x, part, left)
 }
 
-// The jobs after the units of a tick.
-fn serve_all(
-    jobs: [Job; 64],
-    picked: &[u32; 17],
-    bounds: &[u32; 192],
-    homes: &[u32; 192],
-    n: usize,
-    t: u32,
-) -> [Job; 64]
-    requires { ⌜ (n ≤ 64) × (t < 1000000) × GoodBounds (now bounds) × ((k : ℕ) → getD (now homes) k 0 ≤ 16) × ((i : ℕ) → i < n → GoodJob (jobAt jobs i) × (jobAt jobs i .ended < 4294967295) × (jobAt jobs i .ran < 4294967295)) ⌝ }
-    ensures { λ r. ⌜ r ≡ filled 64 noJob n (λ i. serve (now (picked .entry)) (now (bounds .entry)) (now (homes .entry)) t i (jobAt jobs i)) ⌝ }
-{
-    let mut out = no_jobs();
-    for i in 0..n {
-        let x = jobs[i];
-        let served = serve_job(x, i, picked, bounds, homes, t);
-        out[i] = served;
-    }
-    out
-}
-
 // The larger of two numbers.
 fn larger(x: u32, y: u32) -> u32
     ensures { λ r. ⌜ r ≡ max x y ⌝ }
@@ -213,7 +240,7 @@ fn larger(x: u32, y: u32) -> u32
 }
 
 // Notes the response of row i's part where it ends with the unit of tick t.
-fn note(x: Job, i: usize, bounds: &[u32; 192], t: u32, worst: &mut [u32])
+pub fn note(x: Job, i: usize, bounds: &[u32; 192], t: u32, worst: &mut [u32])
     requires { ⌜ (i < 64) × (t < 1000000) × GoodBounds (now bounds) × GoodJob x × (length (now worst) ≡ 192) ⌝ }
     ensures { λ r. ⌜ now (worst .exit) ≡ notedAt (now (bounds .entry)) t i x (x .place) (now (worst .entry)) ⌝ }
 {
@@ -229,28 +256,6 @@ fn note(x: Job, i: usize, bounds: &[u32; 192], t: u32, worst: &mut [u32])
     worst[k] = larger(worst[k], response);
 }
 
-// Notes the responses of the parts that end with the units of a tick.
-fn note_all(
-    jobs: [Job; 64],
-    picked: &[u32; 17],
-    bounds: &[u32; 192],
-    m: usize,
-    t: u32,
-    worst: &mut [u32],
-)
-    requires { ⌜ (m ≤ 16) × (t < 1000000) × GoodBounds (now bounds) × ((q : ℕ) → getD (now picked) q 0 ≤ 64) × ((i : ℕ) → i < 64 → GoodJob (jobAt jobs i)) × (length (now worst) ≡ 192) ⌝ }
-    ensures { λ r. ⌜ now (worst .exit) ≡ notedTo (now (bounds .entry)) t jobs (now (picked .entry)) m (now (worst .entry)) ⌝ }
-{
-    for q in 0..m {
-        let row = picked[q + 1] as usize;
-        if row > 0 {
-            let i = row - 1;
-            let x = jobs[i];
-            note(x, i, bounds, t, worst);
-        }
-    }
-}
-
 // The kind of a place: 0 idle, 1 stage one, 2 section, 3 stage two.
 fn kind_of(p: Place) -> u32
     requires { ⌜ partOf p < 3 ⌝ }
@@ -263,16 +268,16 @@ fn kind_of(p: Place) -> u32
 }
 
 // The bytes of a tick, one for each processor.
-fn show(jobs: [Job; 64], picked: &[u32; 17], lane: &mut [u8])
-    requires { ⌜ (length (now lane) ≤ 16) × ((q : ℕ) → getD (now picked) q 0 ≤ 64) × ((i : ℕ) → i < 64 → GoodJob (jobAt jobs i)) ⌝ }
-    ensures { λ r. ⌜ now (lane .exit) ≡ tab (length (now (lane .entry))) (λ k. byteOf jobs (getD (now (picked .entry)) (suc k) 0)) ⌝ }
+pub fn show(jobs: &[u32], picked: &[u32; 17], lane: &mut [u8])
+    requires { ⌜ (length (now jobs) ≡ 576) × (length (now lane) ≤ 16) × ((q : ℕ) → getD (now picked) q 0 ≤ 64) × ((i : ℕ) → i < 64 → GoodJob (jobIn (now jobs) i)) ⌝ }
+    ensures { λ r. ⌜ now (lane .exit) ≡ tab (length (now (lane .entry))) (λ k. byteOf (jobsIn (now (jobs .entry))) (getD (now (picked .entry)) (suc k) 0)) ⌝ }
 {
     for k in 0..lane.len() {
         let row = picked[k + 1];
         let mut byte = 0u32;
         if row > 0 {
             let i = row as usize - 1;
-            let x = jobs[i];
+            let x = jobs::job_at(jobs, i);
             let p = x.place;
             byte = kind_of(p) * 64 + (row - 1);
         }
@@ -280,51 +285,16 @@ fn show(jobs: [Job; 64], picked: &[u32; 17], lane: &mut [u8])
     }
 }
 
-// One tick of the machine: its releases, its bytes, its responses and its units.
-pub fn tick(
-    jobs: [Job; 64],
-    next: usize,
-    t: u32,
-    n: usize,
-    bounds: &[u32; 192],
-    homes: &[u32; 192],
-    rank: &[u32; 64],
-    top: &[u32; 64],
-    flat: &[u32],
-    count: usize,
-    worst: &mut [u32],
-    lane: &mut [u8],
-) -> Ticked
-    requires { ⌜ (t < 1000000) × GoodChart (Chart·chart n (length (now lane)) (now bounds) (now homes) (now rank) (now top)) × GoodJobs n t jobs × (count ≤ 4096) × (length (now flat) ≡ 20480) × Coming n (arrivalsOf (now flat) count) next t × (length (now worst) ≡ 192) ⌝ }
-    ensures { λ r. ⌜ (r .late ≡ lateRow n (now (bounds .entry)) (brings (arrivalsOf (now (flat .entry)) count)) t jobs)
-        × (r .late ≡ n → Went (Chart·chart n (length (now (lane .entry))) (now (bounds .entry)) (now (homes .entry)) (now (rank .entry)) (now (top .entry))) (arrivalsOf (now (flat .entry)) count) t jobs (now (worst .entry)) (r .jobs) (r .next) (now (worst .exit)) (now (lane .exit))) ⌝ }
-{
-    let released = release_all(jobs, bounds, n, t, flat, count, next);
-    if released.late < n {
-        return released;
-    }
-    let there = released.jobs;
-    let picked = picks::picks(there, homes, rank, top, n);
-    show(there, &picked, lane);
-    note_all(there, &picked, bounds, lane.len(), t, worst);
-    let after = serve_all(there, &picked, bounds, homes, n, t);
-    Ticked {
-        jobs: after,
-        next: released.next,
-        late: n,
-    }
-}
-
 // What n jobs have ended, run and still owe.
-pub fn count_up(jobs: [Job; 64], n: usize) -> Tally
-    requires { ⌜ (n ≤ 64) × ((i : ℕ) → i < n → GoodJob (jobAt jobs i)) ⌝ }
-    ensures { λ r. ⌜ r ≡ tallyOf n jobs ⌝ }
+pub fn count_up(jobs: &[u32], n: usize) -> Tally
+    requires { ⌜ (n ≤ 64) × (length (now jobs) ≡ 576) × ((i : ℕ) → i < n → GoodJob (jobIn (now jobs) i)) ⌝ }
+    ensures { λ r. ⌜ r ≡ tallyOf n (jobsIn (now (jobs .entry))) ⌝ }
 {
     let mut ended: u64 = 0;
     let mut run: u64 = 0;
     let mut owed: u64 = 0;
     for i in 0..n {
-        let x = jobs[i];
+        let x = jobs::job_at(jobs, i);
         ended += x.ended as u64;
         run += x.ran as u64;
         owed += chain::owed(x);

@@ -1,8 +1,8 @@
 -- One pass over the rows keeps what each processor has to choose from.
-use Prim.Native.Nat.{ℕ, zero, suc, _+_, _≤_, _<_, min}
+use Prim.Native.Nat.{ℕ, _+_, _≤_, _<_, min}
 use mathlib.Core.Path.{_≡_, refl, sym, _∙_, ap}
 use mathlib.Core.Bool.{Bool, true, false, _&&_, and-true, and-false}
-use mathlib.Core.List.{List, [], _∷_}
+use mathlib.Core.List.{List}
 use mathlib.Core.Logic.{dite}
 use native.Mathlib.Omega.{arith}
 use native.Mathlib.Decide.{ℕ-discrete}
@@ -17,22 +17,7 @@ use Rattle.chain.specs.Job.{jobAt}
 use Rattle.picks.specs.Pick.{gtb, home, sectionOn, stageOn, waits, holds, ready}
 use Rattle.picks.specs.Best.{best}
 use Rattle.picks.specs.Offer.{Best, nobody, against, keyOf, bestOf, lowest, Offered}
-use Rattle.picks.specs.Good.{GoodPlaces}
 use Rattle.picks.proofs.Bests.{best-skip, best-more, lowest-skip, lowest-more}
-
--- what is read past the end of the jobs
-abbrev pub past : Job
-past = record { place = Idle; arrived = 0; lens = []; begun = 0; ended = 0; ran = 0 }
-
--- the job that is read is the row's
-pub job-at : (js : List Job) (i : ℕ) → i < length js → jobAt js i ≡ getD js i past
-job-at [] i h = absurd (omega arith)
-job-at (x ∷ js) zero h = refl
-job-at (x ∷ js) (suc i) h = job-at js i (omega arith)
-
--- a part that runs is one of the three
-pub part-small : (js : List Job) (n i j l : ℕ) → GoodPlaces js n → i < n → i < length js → getD js i past .place ≡ Running j l → j < 3
-part-small js n i j l good h b e = rw (job-at js i b, e) at (good i h .part)
 
 -- an array with f at each processor's number
 abbrev pub Column : {A : Type 0} → A → (ℕ → A) → List A → Type 0

@@ -1,3 +1,4 @@
 pub mod Bests
 pub mod Columns
 pub mod Picked
+pub mod Started

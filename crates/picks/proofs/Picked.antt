@@ -33,7 +33,7 @@ chosen-last zero (suc y) s b k h = refl
 chosen-last (suc x) (suc y) s b k h = rw (h (λ e. omega arith))
 
 -- what holds of the three holds of the chosen one
-chosen-one : (P : ℕ → Type 0) (x y s : ℕ) (b : Bool) → P x → P y → P s → P (chosen x y s b)
+pub chosen-one : (P : ℕ → Type 0) (x y s : ℕ) (b : Bool) → P x → P y → P s → P (chosen x y s b)
 unfolding chosen
 chosen-one P zero zero s b first last stage = stage
 chosen-one P zero (suc y) s b first last stage = last
@@ -167,6 +167,13 @@ pub record Alike (homes : List ℕ) (q : ℕ) (js ks : List Job) (i : ℕ) : Typ
   pub stage : stageOn homes q i (jobAt js i .place) ≡ stageOn homes q i (jobAt ks i .place)
   pub begun : sectionOn homes q i (jobAt ks i .place) ≡ true → jobAt js i .begun ≡ jobAt ks i .begun
 
+-- a part that is a section on processor q
+pub section-here : (homes : List ℕ) (q i j l : ℕ) → sectionOn homes q i (Running j l) ≡ true → (j ≡ 1) × (home homes i j ≡ q)
+unfolding sectionOn
+section-here homes q i j l h =
+    let (s, there) = and-both (eqb j 1) (eqb (home homes i j) q) h in
+    (eqb-true j 1 s, eqb-true (home homes i j) q there)
+
 module _ (homes : List ℕ) (q : ℕ) (js ks : List Job) (i : ℕ) where
   pub alike-job : jobAt js i ≡ jobAt ks i → Alike homes q js ks i
   alike-job e =
@@ -176,24 +183,28 @@ module _ (homes : List ℕ) (q : ℕ) (js ks : List Job) (i : ℕ) where
         begun = λ h. ap (λ (x : Job). x .begun) e;
       }
 
-  -- what is left of a part makes no difference
-  pub alike-part : (j l m : ℕ) → jobAt js i .place ≡ Running j l → jobAt ks i .place ≡ Running j m → jobAt js i .begun ≡ jobAt ks i .begun → Alike homes q js ks i
+  -- what is left of a part makes no difference, nor does when a stage, or a section elsewhere, was begun
+  pub alike-part : (j l m : ℕ) → jobAt js i .place ≡ Running j l → jobAt ks i .place ≡ Running j m → (sectionOn homes q i (jobAt ks i .place) ≡ true → jobAt js i .begun ≡ jobAt ks i .begun) → Alike homes q js ks i
   unfolding sectionOn stageOn
   alike-part j l m a b e =
       record {
         section = ap (sectionOn homes q i) a ∙ sym (ap (sectionOn homes q i) b);
         stage = ap (stageOn homes q i) a ∙ sym (ap (stageOn homes q i) b);
-        begun = λ h. e;
+        begun = e;
       }
+
+-- a test of when a section was begun
+pub test-same : (homes : List ℕ) (js ks : List Job) (q i : ℕ) → Alike homes q js ks i → (f : ℕ → Bool) → (sectionOn homes q i (jobAt js i .place) && f (jobAt js i .begun)) ≡ (sectionOn homes q i (jobAt ks i .place) && f (jobAt ks i .begun))
+test-same homes js ks q i alike f = rw (alike .section) (go (sectionOn homes q i (jobAt ks i .place)) refl)
+  where
+    go : (t : Bool) → sectionOn homes q i (jobAt ks i .place) ≡ t → (t && f (jobAt js i .begun)) ≡ (t && f (jobAt ks i .begun))
+    go true e = ap f (alike .begun e)
+    go false e = refl
 
 -- a pick depends on nothing else
 module _ (homes ranks tops : List ℕ) (n : ℕ) (js ks : List Job) (q : ℕ) (alike : (i : ℕ) → i < n → Alike homes q js ks i) where
   tests-same : (f : ℕ → Bool) (i : ℕ) → i < n → (sectionOn homes q i (jobAt js i .place) && f (jobAt js i .begun)) ≡ (sectionOn homes q i (jobAt ks i .place) && f (jobAt ks i .begun))
-  tests-same f i l = rw (alike i l .section) (go (sectionOn homes q i (jobAt ks i .place)) refl)
-    where
-      go : (t : Bool) → sectionOn homes q i (jobAt ks i .place) ≡ t → (t && f (jobAt js i .begun)) ≡ (t && f (jobAt ks i .begun))
-      go true e = ap f (alike i l .begun e)
-      go false e = refl
+  tests-same f i l = test-same homes js ks q i (alike i l) f
 
   clear-same : (x : ℕ) → clear homes ranks tops n js q x ≡ clear homes ranks tops n ks q x
   unfolding clear holds

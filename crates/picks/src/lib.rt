@@ -1,13 +1,13 @@
 // What each processor runs in a tick, from one pass over the rows.
 ghost use mathlib.Core.Path.{_≡_};
 ghost use Prim.Native.Nat.{ℕ, _<_, _≤_, min};
-ghost use lib.ListN.{getD};
+ghost use lib.ListN.{length, getD};
 ghost use lib.Dec.{ltb};
 ghost use Rattle.lists.specs.Tab.{tab};
+ghost use Rattle.jobs.specs.Numbers.{jobsIn};
 ghost use Rattle.picks.specs.Pick.{gtb, home, chosen, pick};
 ghost use Rattle.picks.specs.Offer.{nobody, against, Offered};
 ghost use Rattle.picks.specs.Good.{GoodHomes, GoodPlaces};
-use chain::Job;
 use chain::Place;
 
 // A row, numbered from 1, and its key; row 0 is none.
@@ -70,14 +70,14 @@ fn home_of(homes: &[u32; 192], i: usize, part: u32) -> usize
 
 // What each processor has to choose from.
 fn look_over(
-    jobs: [Job; 64],
+    jobs: &[u32],
     homes: &[u32; 192],
     rank: &[u32; 64],
     top: &[u32; 64],
     n: usize,
 ) -> Offers
-    requires { ⌜ GoodHomes (now homes) (now rank) n × GoodPlaces jobs n ⌝ }
-    ensures { λ r. ⌜ ((q : ℕ) → q < 17 → Offered (now (homes .entry)) (now (rank .entry)) (now (top .entry)) jobs n (getD (r .first) q (nobody 0)) (getD (r .last) q (nobody 0)) (getD (r .stage) q (nobody 0)) (getD (r .held) q 0) q) ⌝ }
+    requires { ⌜ (length (now jobs) ≡ 576) × GoodHomes (now homes) (now rank) n × GoodPlaces (jobsIn (now jobs)) n ⌝ }
+    ensures { λ r. ⌜ ((q : ℕ) → q < 17 → Offered (now (homes .entry)) (now (rank .entry)) (now (top .entry)) (jobsIn (now (jobs .entry))) n (getD (r .first) q (nobody 0)) (getD (r .last) q (nobody 0)) (getD (r .stage) q (nobody 0)) (getD (r .held) q 0) q) ⌝ }
 {
     let none = Best { row: 0, key: 64 };
     let unbegun = Best { row: 0, key: 0 };
@@ -86,7 +86,7 @@ fn look_over(
     let mut stage = [none; 17];
     let mut held = [64u32; 17];
     for i in 0..n {
-        let x = jobs[i];
+        let x = jobs::job_at(jobs, i);
         let p = x.place;
         if let Place::Running { part, left: _ } = p {
             let q = home_of(homes, i, part);
@@ -133,14 +133,14 @@ fn choose(first: Best, last: Best, stage: Best, held: u32) -> u32
 
 // The row that each processor runs, at the processor's number; 0 is none.
 pub fn picks(
-    jobs: [Job; 64],
+    jobs: &[u32],
     homes: &[u32; 192],
     rank: &[u32; 64],
     top: &[u32; 64],
     n: usize,
 ) -> [u32; 17]
-    requires { ⌜ GoodHomes (now homes) (now rank) n × GoodPlaces jobs n ⌝ }
-    ensures { λ r. ⌜ r ≡ tab 17 (pick (now (homes .entry)) (now (rank .entry)) (now (top .entry)) n jobs) ⌝ }
+    requires { ⌜ (length (now jobs) ≡ 576) × GoodHomes (now homes) (now rank) n × GoodPlaces (jobsIn (now jobs)) n ⌝ }
+    ensures { λ r. ⌜ r ≡ tab 17 (pick (now (homes .entry)) (now (rank .entry)) (now (top .entry)) n (jobsIn (now (jobs .entry)))) ⌝ }
 {
     let o = look_over(jobs, homes, rank, top, n);
     let first = o.first;

@@ -21,7 +21,8 @@ use Rattle.machine.specs.Chart.{chartOf}
 use Rattle.machine.specs.Tick.{jobsAt, worstAt, lateAt}
 use Rattle.machine.specs.Counts.{tallyOf}
 use Rattle.run.specs.Run.{Ran, refused, done, lateTick, log, steppedOf, shownOf}
-use Rattle.run.specs.Answer.{badWindow, heard, callNumber, callNames, callAnswer, tableAnswer, runAnswer, traceAfter}
+use Rattle.run.specs.Answer.{heard, callNumber, callNames, callAnswer, tableAnswer, runAnswer, traceAfter}
+use Rattle.run.proofs.Calls.{allowed}
 
 -- what the machine answers after ticks 0 to e - 1
 abbrev pub ranTo : Chart → List Arrival → ℕ → Ran
@@ -52,18 +53,7 @@ unfolding numberOf
 planned-none Planned h = refl
 planned-none (Failed row mark) h = absurd (omega arith)
 
-heard-last : (a b c : Bool) (h : ℕ) → cond a 12 (cond b 13 (cond c 14 h)) ≡ 0 → h ≡ 0
-heard-last true b c h e = absurd (omega arith)
-heard-last false true c h e = absurd (omega arith)
-heard-last false false true h e = absurd (omega arith)
-heard-last false false false h e = e
-
 module _ (r : Reading) (xs : List Arrival) (f w size : ℕ) where
-  -- the arrivals of an accepted call have no refusal
-  called-heard : callNumber (r .table) xs f w size ≡ 0 → heard (r .table) xs .number ≡ 0
-  unfolding callNumber
-  called-heard = heard-last (badWindow f w) (ltb size (r .table .m * w)) (ltb 4096 (length xs)) (heard (r .table) xs .number)
-
   pub run-accepted : runAnswer r xs f w size .number ≡ 0 → Accepted r xs f w size
   unfolding runAnswer tableAnswer callAnswer steppedOf
   run-accepted z =
@@ -79,7 +69,7 @@ module _ (r : Reading) (xs : List Arrival) (f w size : ℕ) where
         read = omega (arith, read .0);
         planned = planned-none (tried .outcome) (planned .0);
         called = none;
-        heard-none = called-heard none;
+        heard-none = allowed t xs f w size none .good;
         in-time = stepped .0;
         answer = read .1 ∙ planned .1 ∙ called .1 ∙ stepped .1;
       }

@@ -1,10 +1,10 @@
 -- The ways in which a call of a run ends.
-use Prim.Native.Nat.{ℕ, suc, _+_, _*_, _≤_, _<_}
-use mathlib.Core.Path.{_≡_, refl, sym, ap, _∙_}
+use Prim.Native.Nat.{ℕ, _+_, _*_, _≤_, _<_}
+use mathlib.Core.Path.{_≡_, refl, sym}
 use mathlib.Core.Bool.{Bool, true, false, cond, _||_}
 use mathlib.Core.List.{List}
 use native.Mathlib.Omega.{arith}
-use borrow.Author.Tests.{lt-ltb, le-ltb, ltb-true, ltb-false}
+use borrow.Author.Tests.{lt-ltb, le-ltb, ltb-false}
 use lib.ListN.{length}
 use lib.Dec.{ltb}
 use Rattle.table.specs.declared.Table.{Table}
@@ -50,19 +50,19 @@ module _ (t : Table) (xs : List Arrival) (f w size : ℕ) where
       as-heard h = rw (fine, le-ltb size (t .m * w) long, le-ltb 4096 (length xs) h) (refl, refl)
 
   -- a call without a refusal
-  pub record Accepted : Type 0 where
+  pub record Allowed : Type 0 where
     pub short : w ≤ 4096
     pub early : f + w ≤ 1000000
     pub room : t .m * w ≤ size
     pub few : length xs ≤ 4096
     pub good : heard t xs .number ≡ 0
 
-  pub accepted : callNumber t xs f w size ≡ 0 → Accepted
+  pub allowed : callNumber t xs f w size ≡ 0 → Allowed
   unfolding callNumber
-  accepted z = one (badWindow f w) refl (ltb size (t .m * w)) refl (ltb 4096 (length xs)) refl z
+  allowed z = one (badWindow f w) refl (ltb size (t .m * w)) refl (ltb 4096 (length xs)) refl z
     where
       one : (b : Bool) → badWindow f w ≡ b → (d : Bool) → ltb size (t .m * w) ≡ d → (e : Bool) → ltb 4096 (length xs) ≡ e
-          → cond b 12 (cond d 13 (cond e 14 (heard t xs .number))) ≡ 0 → Accepted
+          → cond b 12 (cond d 13 (cond e 14 (heard t xs .number))) ≡ 0 → Allowed
       one true p d r e s z = absurd (omega arith)
       one false p true r e s z = absurd (omega arith)
       one false p false r true s z = absurd (omega arith)

@@ -1,6 +1,6 @@
 -- The chart of a plan is one that the machine can run, and arrivals that are not refused are ones that it can take.
 use Prim.Native.Nat.{ℕ, zero, suc, _+_, _*_, _≤_, _<_}
-use mathlib.Core.Path.{_≡_, refl, sym, ap, _∙_, subst}
+use mathlib.Core.Path.{_≡_, refl, ap, subst}
 use mathlib.Core.List.{List}
 use native.Mathlib.Omega.{arith}
 use borrow.Author.Tests.{leb-true, leb-false}
@@ -14,8 +14,6 @@ use Rattle.table.specs.Good.{GoodTable}
 use Rattle.plan.specs.declared.Outcome.the-variants.{Planned}
 use Rattle.plan.specs.Planning.{plannedOf}
 use Rattle.plan.proofs.Covers.{plan-bounds, plan-serves}
-use Rattle.picks.specs.Good.{GoodHomes}
-use Rattle.chain.specs.Good.{GoodBounds}
 use Rattle.machine.specs.Chart.{threes, locksOf, chartOf}
 use Rattle.machine.specs.Good.{GoodChart, Coming}
 use Rattle.arrivals.specs.declared.Arrival.{Arrival}

@@ -1,21 +1,20 @@
 -- Lists that are written from the front on.
-use Prim.Native.Nat.{ℕ, zero, suc, _+_, _*_, _≤_, _<_}
+use Prim.Native.Nat.{ℕ, zero, suc, _+_, _-_, _*_, _≤_, _<_}
 use mathlib.Core.Path.{_≡_, refl, sym, ap, _∙_}
-use mathlib.Core.List.{List, [], _∷_, _++_, append-assoc}
+use mathlib.Core.List.{List, _∷_, _++_}
 use native.Mathlib.Omega.{arith}
 use native.Mathlib.Numerals.{add-one}
-use lib.ListN.{length, take, drop, set, replicate, length-append, length-drop}
-use lib.Seq.{drop-cons, set-at, take-at, drop-at, drop-drop}
+use native.Mathlib.Nat.{mul-add, mul-le-mul-left}
+use lib.ListN.{length, drop, set, replicate, length-append, length-drop}
+use lib.Seq.{sets, sets-eq, drop-cons, set-at, drop-append-add, drop-drop}
+use Rattle.lists.proofs.Sets.{sets-append}
 use Rattle.lists.specs.Tab.{blank}
 use Rattle.lists.proofs.Tab.{length-blank}
 
 module _ {A : Type 0} where
-  -- a part behind what is written so far, written by a call
-  pub front-more : (u v l tr : List A) (at m : ℕ) → length u ≡ at → tr ≡ u ++ drop at l → take at tr ++ (v ++ drop m (drop at tr)) ≡ (u ++ v) ++ drop (at + m) l
-  front-more u v l tr at m hu e =
-      let a : take at tr ≡ u = ap (take at) e ∙ take-at u (drop at l) at hu in
-      let b : drop at tr ≡ drop at l = ap (drop at) e ∙ drop-at u (drop at l) at hu in
-      rw (a, b, drop-drop m at l) (sym (append-assoc u v (drop (at + m) l)))
+  -- lists that are written one behind the other, n places from the first on
+  pub written-on : (l u v : List A) (at n : ℕ) → length u ≡ n → sets (sets l at u) (at + n) v ≡ sets l at (u ++ v)
+  written-on l u v at n h = ap (λ (k : ℕ). sets (sets l at u) (at + k) v) (sym h) ∙ sets-append l at u v
 
   pub length-front : (u l : List A) (at : ℕ) → length u ≡ at → at ≤ length l → length (u ++ drop at l) ≡ length l
   length-front u l at hu h = omega (arith, length-append u (drop at l), length-drop at l)
@@ -30,3 +29,22 @@ unfolding blank
 blank-more l tr k z h e =
     rw (e, drop-cons l k 0 h, add-one k)
     (set-at (replicate k z) _ (drop (suc k) l) z k (length-blank k z) ∙ blank-shift k z (drop (suc k) l))
+
+-- a list whose front is written, and what stands behind it
+pub front-is : (l u : List ℕ) (n : ℕ) → length u ≡ n → n ≤ length l → sets l 0 u ≡ u ++ drop n l
+front-is l u n h k =
+    let q : 0 + length u ≡ n = omega arith in
+    sets-eq u l 0 (omega arith) ∙ ap (λ (z : ℕ). u ++ drop z l) q
+
+pub front-rest : (l u : List ℕ) (n : ℕ) → length u ≤ n → n ≤ length l → drop n (sets l 0 u) ≡ drop n l
+front-rest l u n h k =
+    let q : length u + (n - length u) ≡ n = omega arith in
+    ap (drop n) (front-is l u (length u) refl (omega arith))
+    ∙ ap (λ (z : ℕ). drop z (u ++ drop (length u) l)) (sym q)
+    ∙ drop-append-add u (drop (length u) l) (n - length u)
+    ∙ drop-drop (n - length u) (length u) l
+    ∙ ap (λ (z : ℕ). drop z l) q
+
+-- k lists of length m and r more are no longer than e of them
+pub more-ticks : (m k r e : ℕ) → k + r ≤ e → m * k + m * r ≤ m * e
+more-ticks m k r e h = omega (arith, mul-add m k r, mul-le-mul-left m h)

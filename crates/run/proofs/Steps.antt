@@ -1,144 +1,155 @@
--- The machine's state from tick to tick, and the trace from byte to byte.
-use Prim.Native.Nat.{ℕ, zero, suc, _+_, _-_, _*_, _≤_, _<_}
-use mathlib.Core.Path.{_≡_, refl, sym, ap, ap₂, _∙_, subst}
+-- The machine's numbers from stretch to stretch, and the trace from byte to byte.
+use Prim.Native.Nat.{ℕ, _+_, _-_, _*_, _≤_, _<_}
+use mathlib.Core.Path.{_≡_, refl, sym, ap, _∙_, subst}
 use mathlib.Core.Bool.{Bool, true, false}
-use mathlib.Core.List.{List, [], _∷_, _++_}
+use mathlib.Core.List.{List}
 use native.Mathlib.Omega.{arith}
-use native.Mathlib.Nat.{mul-suc, mul-le-mul-left}
-use native.Mathlib.Numerals.{add-one}
+use native.Mathlib.Nat.{zero-add, add-assoc}
 use borrow.Author.Tests.{ltb-true, ltb-false, lt-ltb, le-ltb}
 use lib.Dec.{ltb}
-use lib.ListN.{length, take, drop}
-use lib.Seq.{sets, sets-eq, drop-append-add, drop-drop, length-sets}
-use Rattle.lists.specs.Tab.{joined}
-use Rattle.lists.proofs.Tab.{joined-more, length-joined, length-tab}
+use lib.ListN.{length, getD, getD-replicate}
+use lib.Seq.{sets}
+use Rattle.lists.specs.Tab.{joined, blank}
+use Rattle.lists.proofs.Tab.{getD-blank, length-blank}
 use Rattle.lists.proofs.First.{first-le}
-use Rattle.lists.proofs.Sets.{sets-append}
+use Rattle.chain.specs.declared.Job.{Job}
+use Rattle.chain.specs.Job.{noJob, jobAt}
+use Rattle.chain.specs.Release.{never, late, dueAt, dueOf}
+use Rattle.chain.specs.Good.{GoodJob}
+use Rattle.jobs.specs.Numbers.{jobIn, jobsIn}
+use Rattle.jobs.proofs.Laws.{jobs-at, jobs-blank}
 use Rattle.arrivals.specs.declared.Arrival.{Arrival}
 use Rattle.arrivals.specs.Arrival.{brings}
 use Rattle.machine.specs.declared.Chart.{Chart}
-use Rattle.chain.specs.declared.Job.{Job}
-use Rattle.chain.specs.Job.{jobAt}
-use Rattle.chain.specs.Release.{late}
-use Rattle.machine.specs.Tick.{lateRow, releases, step, worse, jobsAt, releasedAt, worstAt, lateAt, bytes, bytesAt}
-use Rattle.machine.specs.Good.{Coming, Went as Ticked}
-use Rattle.stretch.specs.Stretch.{Skips}
-use Rattle.stretch.proofs.Steps.{skips-jobs, skips-late, skips-worst}
-use Rattle.run.specs.declared.State.{State}
+use Rattle.machine.specs.Tick.{noted, lateRow, jobsAt, worstAt, lateAt, bytesAt}
+use Rattle.machine.specs.Good.{GoodChart, GoodJobs, Dues, Held, Coming}
+use Rattle.machine.proofs.Keep.{good-at, past-at, length-worst}
+use Rattle.stretch.specs.declared.Stretched.{Stretched}
+use Rattle.stretch.specs.Stretch.{Stretch}
+use Rattle.stretch.proofs.Steps.{steps-from, worst-from, late-from, bytes-from}
 use Rattle.run.specs.Run.{isLate, log}
-use Rattle.run.specs.State.{empty, Stands, Falls, Went}
+use Rattle.run.specs.State.{Stands, Went}
+use Rattle.run.proofs.Front.{written-on}
+use Rattle.run.proofs.Joined.{joined-append, joined-same}
+use Rattle.run.proofs.Window.{length-log}
 
 module _ (c : Chart) (xs : List Arrival) where
+  -- a task that has not arrived waits for no release
+  none-due : (i : ℕ) → i < 64 → getD (blank 64 never) i 0 ≡ dueOf (c .bounds) i noJob
+  unfolding blank dueAt
+  none-due i h = getD-replicate 64 i never 0 h
+
   -- the empty start
-  pub starts : Coming (c .n) xs 0 0 → Stands c xs 0 (empty (c .n))
+  pub starts : c .n ≤ 64 → Coming (c .n) xs 0 0 → Stands c xs 0 (blank 576 0) (blank 64 never) (blank 192 0) 0
   unfolding jobsAt worstAt
-  starts come = record { none = refl; jobs = refl; worst = refl; coming = come; clear = λ e h. absurd (omega arith) }
+  starts few come =
+      record { whole = length-blank 576 0; column = length-blank 64 never; jobs = jobs-blank; dues-are = dues; noted = refl; coming = come; clear = λ e h. absurd (omega arith) }
+    where
+      none : (i : ℕ) → jobAt (jobsIn (blank 576 0)) i ≡ noJob
+      none i = ap (λ (js : List Job). jobAt js i) jobs-blank ∙ getD-blank 64 noJob i
 
-  -- a run that has stopped has stopped for good
-  pub went-on : (t e : ℕ) (s : State) → t ≤ e → s .late < c .n → Went c xs t s → Went c xs e s
-  went-on t e s le l w =
+      dues : Dues (c .n) (c .bounds) (jobsIn (blank 576 0)) (blank 64 never)
+      dues i l = none-due i (omega arith) ∙ sym (ap (dueOf (c .bounds) i) (none i))
+
+  -- some ticks more are written behind those before them
+  pub shown-more : (l tr v : List ℕ) (f k ticks : ℕ) → tr ≡ sets l 0 (log c xs f k) → ((j : ℕ) → j < ticks → v ≡ bytesAt c (brings xs) (f + k + j))
+      → sets tr (c .m * k) (joined ticks (λ j. v)) ≡ sets l 0 (log c xs f (k + ticks))
+  unfolding log
+  shown-more l tr v f k ticks e same =
+      let g : ℕ → List ℕ = λ j. bytesAt c (brings xs) (f + j) in
+      let inside : joined ticks (λ j. v) ≡ joined ticks (λ j. g (k + j)) = joined-same ticks (λ j. v) (λ j. g (k + j)) (λ j h. same j h ∙ ap (bytesAt c (brings xs)) (add-assoc f k j)) in
+      rw (e, inside, joined-append k ticks g)
+      (ap (λ (z : ℕ). sets (sets l 0 (log c xs f k)) z (joined ticks (λ j. g (k + j)))) (sym (zero-add (c .m * k)))
+      ∙ written-on l (log c xs f k) (joined ticks (λ j. g (k + j))) 0 (c .m * k) (length-log c xs f k))
+
+-- one stretch of ticks more
+module _ {c : Chart} {xs : List Arrival} {t : ℕ} {flat dues worst : List ℕ} {next : ℕ} (st : Stands c xs t flat dues worst next) where
+  pub holds : GoodChart c → t ≤ 1000000 → Held (c .n) (c .bounds) t flat dues
+  holds good h =
       record {
-        stands = λ q. absurd (omega arith);
-        falls = λ h. let f = w .falls h in record { tick = f .tick; before = omega (arith, f .before); row = f .row; is = f .is; clear = f .clear };
-        either = w .either;
+        few = good .homed .few;
+        whole = st .whole;
+        column = st .column;
+        good = subst (GoodJobs (c .n) t) (sym (st .jobs)) (good-at c (brings xs) t h);
+        past = λ i a b. sym (jobs-at flat i b) ∙ ap (λ (js : List Job). jobAt js i) (st .jobs) ∙ past-at c (brings xs) t i a b;
+        dues-are = st .dues-are;
       }
 
-  pub went-all : (t e : ℕ) (s : State) → t ≡ e → Stands c xs t s → Went c xs e s
-  went-all t e s q st =
+  pub good-in : GoodChart c → t ≤ 1000000 → (i : ℕ) → i < c .n → GoodJob (jobIn flat i)
+  good-in good h i l = subst GoodJob (jobs-at flat i (omega (arith, good .homed .few))) (holds good h .good i l .0)
+
+  -- all ticks are stepped
+  pub went-all : {e : ℕ} → t ≡ e → Went c xs e (c .n) next flat dues worst
+  went-all q =
       record {
-        stands = λ z. subst (λ (k : ℕ). Stands c xs k s) q st;
-        falls = λ h. absurd (omega (arith, st .none));
-        either = omega (arith, st .none);
+        stands = λ z. subst (λ (k : ℕ). Stands c xs k flat dues worst next) q st;
+        falls = λ h. absurd (omega arith);
+        either = omega arith;
       }
 
-  pub stands-on : (t : ℕ) (s : State) → c .n ≤ s .late → Went c xs t s → Stands c xs t s
-  stands-on t s l w = w .stands (omega (arith, w .either))
+  pub worst-whole : length worst ≡ 192
+  worst-whole = ap length (st .noted) ∙ length-worst c (brings xs) t
 
-  pub bytes-length : (t : ℕ) → length (bytesAt c (brings xs) t) ≡ c .m
-  unfolding bytesAt bytes
-  bytes-length t = length-tab (c .m) _
+  -- what a stretch of ticks before tick e leads to, as it is told
+  module _ (e : ℕ) (r : Stretched) (flat′ dues′ worst′ lane : List ℕ) where
+    abbrev pub Led : Type 0
+    Led =
+        (length flat′ ≡ 576) × (length dues′ ≡ 64)
+        × (r .late ≡ lateRow (c .n) (c .bounds) (brings xs) t (jobsIn flat))
+        × (r .late ≡ c .n → Stretch c xs t (jobsIn flat) worst (r .ticks) (jobsIn flat′) worst′ lane
+        × (0 < r .ticks) × (t + r .ticks ≤ e) × Dues (c .n) (c .bounds) (jobsIn flat′) dues′ × Coming (c .n) xs (r .next) (t + r .ticks))
 
-  pub log-length : (f k : ℕ) → length (log c xs f k) ≡ c .m * k
-  unfolding log
-  log-length f k = length-joined k (c .m) (λ j. bytesAt c (brings xs) (f + j)) (λ j. bytes-length (f + j))
+    module _ (led : Led) where
+      late-is : r .late ≡ lateAt c (brings xs) t
+      unfolding lateAt
+      late-is = led .2 ∙ ap (lateRow (c .n) (c .bounds) (brings xs) t) (st .jobs)
 
-  -- one tick more is written behind those before it
-  pub shown-more : (l tr v : List ℕ) (f k : ℕ) → tr ≡ sets l 0 (log c xs f k) → v ≡ bytesAt c (brings xs) (f + k) → sets tr (c .m * k) v ≡ sets l 0 (log c xs f (k + 1))
-  unfolding log
-  shown-more l tr v f k e q =
-      let at : c .m * k ≡ 0 + length (log c xs f k) = omega (arith, log-length f k) in
-      rw (e, q, joined-more k (λ j. bytesAt c (brings xs) (f + j)))
-      (ap (λ (z : ℕ). sets (sets l 0 (log c xs f k)) z (bytesAt c (brings xs) (f + k))) at
-      ∙ sets-append l 0 (log c xs f k) (bytesAt c (brings xs) (f + k)))
+      -- a release came too early in tick t
+      pub went-off : t < e → r .late < c .n → Went c xs e (r .late) next flat′ dues′ worst′
+      went-off b h =
+          record {
+            stands = λ q. absurd (omega arith);
+            falls = λ l. record { tick = t; before = b; row = late-is; is = lt-ltb (lateAt c (brings xs) t) (c .n) (omega (arith, late-is)); clear = st .clear };
+            either = omega arith;
+          }
 
--- one tick of the machine more
-module _ (c : Chart) (xs : List Arrival) (t : ℕ) (s : State) (st : Stands c xs t s) where
-  late-row : lateRow (c .n) (c .bounds) (brings xs) t (s .jobs) ≡ lateAt c (brings xs) t
-  unfolding lateAt
-  late-row = ap (lateRow (c .n) (c .bounds) (brings xs) t) (st .jobs)
+      module _ (h : c .n ≤ r .late) where
+        none : r .late ≡ c .n
+        unfolding lateRow
+        none = omega (arith, led .2, first-le (c .n) (λ i. late (c .bounds) i t (jobAt (jobsIn flat) i) (brings xs i t)))
 
-  module _ (next : State) (row : List ℕ) (is : next .late ≡ lateRow (c .n) (c .bounds) (brings xs) t (s .jobs))
-      (ticked : next .late ≡ c .n → Ticked c xs t (s .jobs) (s .worst) (next .jobs) (next .next) (next .worst) row) where
-    on-time : next .late ≡ c .n → (e : ℕ) → e < suc t → isLate c xs e ≡ false
-    on-time h e l = go (ltb e t) refl
-      where
-        go : (b : Bool) → ltb e t ≡ b → isLate c xs e ≡ false
-        go true p = st .clear e (ltb-true e t p)
-        go false p =
-            let q : e ≡ t = omega (arith, ltb-false e t p) in
-            rw q (le-ltb (lateAt c (brings xs) t) (c .n) (omega (arith, is, late-row)))
+        on : Stretch c xs t (jobsAt c (brings xs) t) (worstAt c (brings xs) t) (r .ticks) (jobsIn flat′) worst′ lane
+        on = subst (λ (js : List Job). Stretch c xs t js (worstAt c (brings xs) t) (r .ticks) (jobsIn flat′) worst′ lane) (st .jobs)
+            (subst (λ (w : List ℕ). Stretch c xs t (jobsIn flat) w (r .ticks) (jobsIn flat′) worst′ lane) (st .noted) (led .3 none .0))
 
-    pub stepped : Went c xs (t + 1) next
-    unfolding jobsAt worstAt releasedAt lateRow
-    stepped =
-        rw (add-one t)
-        (record {
-          stands = λ h.
-              let w = ticked h in
-              record {
-                none = h;
-                jobs = w .jobs ∙ ap (step c (brings xs) t) (st .jobs);
-                worst = w .noted ∙ ap₂ (λ (js : List Job) (l : List ℕ). worse c t (releases (c .n) (c .bounds) (brings xs) t js) l) (st .jobs) (st .worst);
-                coming = w .coming;
-                clear = on-time h;
-              };
-          falls = λ h. record { tick = t; before = omega arith; row = is ∙ late-row; is = lt-ltb (lateAt c (brings xs) t) (c .n) (omega (arith, is, late-row)); clear = st .clear };
-          either = omega (arith, is, first-le (c .n) (λ i. late (c .bounds) i t (jobAt (s .jobs) i) (brings xs i t)));
-        })
+        on-time : (k : ℕ) → k < t + r .ticks → isLate c xs k ≡ false
+        on-time k l = go (ltb k t) refl (ltb t k) refl
+          where
+            go : (a : Bool) → ltb k t ≡ a → (b : Bool) → ltb t k ≡ b → isLate c xs k ≡ false
+            go true p b q = st .clear k (ltb-true k t p)
+            go false p false q =
+                let i : k ≡ t = omega (arith, ltb-false k t p, ltb-false t k q) in
+                rw i (le-ltb (lateAt c (brings xs) t) (c .n) (omega (arith, none, late-is)))
+            go false p true q =
+                let i : k ≡ t + (k - t) = omega (arith, ltb-true t k q) in
+                let fine = late-from c (brings xs) t (k - t) ∙ on .timely (k - t) (omega (arith, ltb-true t k q)) (omega (arith, ltb-true t k q)) in
+                rw i (le-ltb (lateAt c (brings xs) (t + (k - t))) (c .n) (omega (arith, fine)))
 
-    pub shown : next .late ≡ c .n → row ≡ bytesAt c (brings xs) t
-    unfolding bytesAt releasedAt
-    shown h = ticked h .shown ∙ ap (λ (js : List Job). bytes c (releases (c .n) (c .bounds) (brings xs) t js)) (st .jobs)
+        pub led-on : Stands c xs (t + r .ticks) flat′ dues′ worst′ (r .next)
+        led-on =
+            record {
+              whole = led .0;
+              column = led .1;
+              jobs = on .jobs ∙ sym (steps-from c (brings xs) t (r .ticks));
+              dues-are = led .3 none .3;
+              noted = on .noted ∙ sym (worst-from c (brings xs) t (r .ticks));
+              coming = led .3 none .4;
+              clear = on-time;
+            }
 
--- the quiet ticks of a stretch are over
-pub rested : (c : Chart) (xs : List Arrival) (t k : ℕ) (s : State) (js : List Job) → Stands c xs t s → Skips c xs t (s .jobs) k js → Coming (c .n) xs (s .next) (t + k)
-    → Stands c xs (t + k) (record { jobs = js; next = s .next; worst = s .worst; late = s .late; lane = s .lane })
-rested c xs t k s js st sk come =
-    record { none = st .none; jobs = skips-jobs c xs t k js over; worst = st .worst ∙ sym (skips-worst c xs t k js over); coming = come; clear = λ e l. on-time e l (ltb e t) refl }
-  where
-    over : Skips c xs t (jobsAt c (brings xs) t) k js
-    over = subst (λ (l : List Job). Skips c xs t l k js) (st .jobs) sk
+        -- each of its ticks has the bytes of the lane
+        pub led-shown : length lane ≡ c .m → (j : ℕ) → j < r .ticks → lane ≡ bytesAt c (brings xs) (t + j)
+        led-shown w j l = on .shown w j l ∙ sym (bytes-from c (brings xs) t j)
 
-    on-time : (e : ℕ) → e < t + k → (b : Bool) → ltb e t ≡ b → isLate c xs e ≡ false
-    on-time e l true p = st .clear e (ltb-true e t p)
-    on-time e l false p =
-        let q : e ≡ t + (e - t) = omega (arith, ltb-false e t p) in
-        rw q (le-ltb (lateAt c (brings xs) (t + (e - t))) (c .n) (omega (arith, skips-late c xs t k js over (e - t) (omega (arith, ltb-false e t p)))))
-
--- a list whose front is written, and what stands behind it
-pub front-is : (l u : List ℕ) (n : ℕ) → length u ≡ n → n ≤ length l → sets l 0 u ≡ u ++ drop n l
-front-is l u n h k =
-    let q : 0 + length u ≡ n = omega arith in
-    sets-eq u l 0 (omega arith) ∙ ap (λ (z : ℕ). u ++ drop z l) q
-
-pub front-rest : (l u : List ℕ) (n : ℕ) → length u ≤ n → n ≤ length l → drop n (sets l 0 u) ≡ drop n l
-front-rest l u n h k =
-    let q : length u + (n - length u) ≡ n = omega arith in
-    ap (drop n) (front-is l u (length u) refl (omega arith))
-    ∙ ap (λ (z : ℕ). drop z (u ++ drop (length u) l)) (sym q)
-    ∙ drop-append-add u (drop (length u) l) (n - length u)
-    ∙ drop-drop (n - length u) (length u) l
-    ∙ ap (λ (z : ℕ). drop z l) q
-
-pub more-ticks : (m k e : ℕ) → k < e → m * k + m ≤ m * e
-more-ticks m k e h = omega (arith, mul-suc m k, mul-le-mul-left m h)
+        pub led-far : (0 < r .ticks) × (t + r .ticks ≤ e)
+        led-far = (led .3 none .1, led .3 none .2)

@@ -6,7 +6,6 @@ use lib.ListN.{length}
 use lib.Dec.{ltb}
 use Rattle.table.specs.declared.Table.{Table}
 use Rattle.table.specs.declared.Reading.{Reading}
-use Rattle.plan.specs.declared.Outcome.{Outcome}
 use Rattle.plan.specs.declared.Tried.{Tried}
 use Rattle.plan.specs.declared.Plan.{Plan}
 use Rattle.plan.specs.Trial.{numberOf, namesOf, markOf}

@@ -1,22 +1,21 @@
 // A run: refusals 11 to 19, the trace, and the answer.
 ghost use mathlib.Core.Path.{_≡_};
 ghost use mathlib.Core.List.{_++_};
-ghost use Prim.Native.Nat.{ℕ, _+_, _*_, _<_, _≤_};
-ghost use lib.ListN.{length, getD, take, drop};
+ghost use Prim.Native.Nat.{_+_, _*_, _≤_};
+ghost use lib.ListN.{length, drop};
 ghost use lib.Seq.{sets};
-ghost use Rattle.lists.specs.Tab.{blank};
+ghost use Rattle.lists.specs.Tab.{joined, blank};
 ghost use Rattle.table.specs.Table.{readingOf};
 ghost use Rattle.table.specs.Good.{GoodTable};
-ghost use Rattle.arrivals.specs.Arrival.{arrivalsOf, brings};
-ghost use Rattle.machine.specs.Tick.{bytesAt};
+ghost use Rattle.arrivals.specs.Arrival.{arrivalsOf};
+ghost use Rattle.chain.specs.Release.{never};
 ghost use Rattle.machine.specs.Good.{GoodChart, Coming};
-ghost use Rattle.machine.specs.Chart.{chart as Chart·chart};
 ghost use Rattle.run.specs.Run.{refused as Run·refused, log, steppedOf, shownOf};
 ghost use Rattle.run.specs.Answer.{badWindow, callNumber, callNames, runAnswer, traceAfter};
-ghost use Rattle.run.specs.State.{empty as State·empty, Went, Stands};
+ghost use Rattle.run.specs.State.{Stands, Went};
 use arrivals::Heard;
-use chain::Job;
 use machine::Chart;
+use machine::Reached;
 use plan::Outcome;
 use table::Table;
 
@@ -31,22 +30,6 @@ pub struct Ran {
     pub jobs: u64,
     pub run: u64,
     pub owed: u64,
-}
-
-// The machine between two ticks: its jobs, the place that the arrivals have come to, the worst responses, the row of a release
-// that came too early, n if none did, and the bytes of the last tick.
-pub struct State {
-    pub jobs: [Job; 64],
-    pub next: usize,
-    pub worst: [u32; 192],
-    pub late: usize,
-    pub lane: [u8; 16],
-}
-
-// The machine before this tick.
-pub struct Later {
-    pub state: State,
-    pub tick: usize,
 }
 
 // A refusal: all else is 0.
@@ -84,112 +67,26 @@ fn no_lane() -> [u8; 16]
     [0u8; 16]
 }
 
-// The machine after one tick more.
-fn step(
-    s: State,
-    t: usize,
-    n: usize,
-    m: usize,
-    bounds: &[u32; 192],
-    homes: &[u32; 192],
-    rank: &[u32; 64],
-    top: &[u32; 64],
-    flat: &[u32],
-    count: usize,
-) -> State
-    requires { ⌜ (t < 1000000) × (count ≤ 4096) × (length (now flat) ≡ 20480) × GoodChart (Chart·chart n m (now bounds) (now homes) (now rank) (now top)) × Stands (Chart·chart n m (now bounds) (now homes) (now rank) (now top)) (arrivalsOf (now flat) count) t s ⌝ }
-    ensures { λ r. ⌜ Went (Chart·chart n m (now (bounds .entry)) (now (homes .entry)) (now (rank .entry)) (now (top .entry))) (arrivalsOf (now (flat .entry)) count) (t + 1) r × (r .late ≡ n → take m (r .lane) ≡ bytesAt (Chart·chart n m (now (bounds .entry)) (now (homes .entry)) (now (rank .entry)) (now (top .entry))) (brings (arrivalsOf (now (flat .entry)) count)) t) ⌝ }
+// For each row the next tick with a release, before the first arrival: later than every tick.
+fn no_dues() -> [u32; 64]
+    ensures { λ r. ⌜ r ≡ blank 64 never ⌝ }
 {
-    let jobs = s.jobs;
-    let mut worst = s.worst;
-    let mut lane = no_lane();
-    let r = machine::tick(
-        jobs,
-        s.next,
-        t as u32,
-        n,
-        bounds,
-        homes,
-        rank,
-        top,
-        flat,
-        count,
-        &mut worst,
-        &mut lane[..m],
-    );
-    let after = r.jobs;
-    State {
-        jobs: after,
-        next: r.next,
-        worst,
-        late: r.late,
-        lane,
-    }
+    [4294967295u32; 64]
 }
 
-// The machine once the quiet ticks from t on are over, before tick e at the latest.
-fn rest(
-    s: State,
-    t: usize,
+// Steps the machine from its empty start to before tick e.
+fn wind(
+    c: Chart,
+    flat: &[u32],
+    count: usize,
     e: usize,
-    n: usize,
-    bounds: &[u32; 192],
-    homes: &[u32; 192],
-    rank: &[u32; 64],
-    top: &[u32; 64],
-    flat: &[u32],
-    count: usize,
-) -> Later
-    requires { ⌜ (t ≤ e) × (e ≤ 1000000) × (count ≤ 4096) × (length (now flat) ≡ 20480) × ((m : ℕ) × GoodChart (Chart·chart n m (now bounds) (now homes) (now rank) (now top)) × Stands (Chart·chart n m (now bounds) (now homes) (now rank) (now top)) (arrivalsOf (now flat) count) t s) ⌝ }
-    ensures { λ r. ⌜ (t ≤ r .tick) × (r .tick ≤ e) × ((m : ℕ) → Stands (Chart·chart n m (now (bounds .entry)) (now (homes .entry)) (now (rank .entry)) (now (top .entry))) (arrivalsOf (now (flat .entry)) count) t s → Stands (Chart·chart n m (now (bounds .entry)) (now (homes .entry)) (now (rank .entry)) (now (top .entry))) (arrivalsOf (now (flat .entry)) count) (r .tick) (r .state)) ⌝ }
-{
-    let jobs = s.jobs;
-    let worst = s.worst;
-    let lane = s.lane;
-    let r = stretch::skip(
-        jobs,
-        s.next,
-        t as u32,
-        e as u32,
-        n,
-        bounds,
-        homes,
-        rank,
-        top,
-        flat,
-        count,
-    );
-    let after = r.jobs;
-    let state = State {
-        jobs: after,
-        next: s.next,
-        worst,
-        late: s.late,
-        lane,
-    };
-    Later {
-        state,
-        tick: t + r.ticks as usize,
-    }
-}
-
-// The machine before its first tick.
-fn empty(n: usize) -> State
-    ensures { λ r. ⌜ r ≡ State·empty n ⌝ }
-{
-    State {
-        jobs: machine::no_jobs(),
-        next: 0,
-        worst: machine::no_threes(),
-        late: n,
-        lane: no_lane(),
-    }
-}
-
-// The machine after ticks 0 to e - 1.
-fn wind(c: Chart, flat: &[u32], count: usize, e: usize) -> State
-    requires { ⌜ (e ≤ 1000000) × (count ≤ 4096) × (length (now flat) ≡ 20480) × GoodChart c × Coming (c .n) (arrivalsOf (now flat) count) 0 0 ⌝ }
-    ensures { λ r. ⌜ Went c (arrivalsOf (now (flat .entry)) count) e r ⌝ }
+    jobs: &mut [u32],
+    due: &mut [u32],
+    worst: &mut [u32],
+    lane: &mut [u8],
+) -> Reached
+    requires { ⌜ (e ≤ 1000000) × (count ≤ 4096) × (length (now flat) ≡ 20480) × GoodChart c × (length (now lane) ≤ 16) × Stands c (arrivalsOf (now flat) count) 0 (now jobs) (now due) (now worst) 0 ⌝ }
+    ensures { λ r. ⌜ Went c (arrivalsOf (now (flat .entry)) count) e (r .late) (r .next) (now (jobs .exit)) (now (due .exit)) (now (worst .exit)) ⌝ }
 {
     let n = c.n;
     let m = c.m;
@@ -197,43 +94,72 @@ fn wind(c: Chart, flat: &[u32], count: usize, e: usize) -> State
     let homes = c.homes;
     let rank = c.rank;
     let top = c.top;
-    let mut s = empty(n);
+    let mut next = 0;
     let mut t = 0;
     while t < e {
-        s = step(s, t, n, m, &bounds, &homes, &rank, &top, flat, count);
-        if s.late < n {
-            return s;
+        let r = stretch::stretch(
+            jobs,
+            due,
+            next,
+            t as u32,
+            e as u32,
+            n,
+            m,
+            &bounds,
+            &homes,
+            &rank,
+            &top,
+            flat,
+            count,
+            worst,
+            lane,
+        );
+        if r.late < n {
+            return Reached { next, late: r.late };
         }
-        t += 1;
-        let later = rest(s, t, e, n, &bounds, &homes, &rank, &top, flat, count);
-        s = later.state;
-        t = later.tick;
+        next = r.next;
+        t += r.ticks as usize;
     }
-    s
+    Reached { next, late: n }
 }
 
-// Writes the first m bytes of a tick's lane into the trace, from place at on.
-fn put_lane(lane: [u8; 16], m: usize, trace: &mut [u8], at: usize)
-    requires { ⌜ (m ≤ 16) × (at + m ≤ length (now trace)) ⌝ }
-    ensures { λ r. ⌜ now (trace .exit) ≡ sets (now (trace .entry)) at (take m lane) ⌝ }
+// Writes the bytes of a tick into the trace, from place at on.
+fn put_lane(lane: &[u8], trace: &mut [u8], at: usize)
+    requires { ⌜ at + length (now lane) ≤ length (now trace) ⌝ }
+    ensures { λ r. ⌜ now (trace .exit) ≡ sets (now (trace .entry)) at (now (lane .entry)) ⌝ }
 {
-    for k in 0..m {
+    for k in 0..lane.len() {
         trace[at + k] = lane[k];
     }
 }
 
-// The machine after ticks more, from tick `from` on, and their bytes at the front of the trace.
+// Writes the same bytes for each of some ticks, one behind the other.
+fn put_lanes(lane: &[u8], trace: &mut [u8], at: usize, ticks: usize)
+    requires { ⌜ at + length (now lane) * ticks ≤ length (now trace) ⌝ }
+    ensures { λ r. ⌜ now (trace .exit) ≡ sets (now (trace .entry)) at (joined ticks (λ k. now (lane .entry))) ⌝ }
+{
+    let m = lane.len();
+    for k in 0..ticks {
+        put_lane(lane, trace, at + m * k);
+    }
+}
+
+// Steps the machine through `ticks` ticks more, from tick `from` on, and writes their bytes at the front of the trace.
 fn play(
     c: Chart,
-    start: State,
     flat: &[u32],
     count: usize,
     from: usize,
     ticks: usize,
+    start: usize,
+    jobs: &mut [u32],
+    due: &mut [u32],
+    worst: &mut [u32],
+    lane: &mut [u8],
     trace: &mut [u8],
-) -> State
-    requires { ⌜ (from + ticks ≤ 1000000) × (count ≤ 4096) × (length (now flat) ≡ 20480) × GoodChart c × (c .m * ticks ≤ length (now trace)) × Stands c (arrivalsOf (now flat) count) from start ⌝ }
-    ensures { λ r. ⌜ Went c (arrivalsOf (now (flat .entry)) count) (from + ticks) r × (drop (c .m * ticks) (now (trace .exit)) ≡ drop (c .m * ticks) (now (trace .entry))) × (r .late ≡ c .n → now (trace .exit) ≡ log c (arrivalsOf (now (flat .entry)) count) from ticks ++ drop (c .m * ticks) (now (trace .entry))) ⌝ }
+) -> Reached
+    requires { ⌜ (from + ticks ≤ 1000000) × (count ≤ 4096) × (length (now flat) ≡ 20480) × GoodChart c × (length (now lane) ≡ c .m) × (c .m * ticks ≤ length (now trace)) × Stands c (arrivalsOf (now flat) count) from (now jobs) (now due) (now worst) start ⌝ }
+    ensures { λ r. ⌜ Went c (arrivalsOf (now (flat .entry)) count) (from + ticks) (r .late) (r .next) (now (jobs .exit)) (now (due .exit)) (now (worst .exit)) × (drop (c .m * ticks) (now (trace .exit)) ≡ drop (c .m * ticks) (now (trace .entry))) × (r .late ≡ c .n → now (trace .exit) ≡ log c (arrivalsOf (now (flat .entry)) count) from ticks ++ drop (c .m * ticks) (now (trace .entry))) ⌝ }
 {
     let n = c.n;
     let m = c.m;
@@ -241,18 +167,34 @@ fn play(
     let homes = c.homes;
     let rank = c.rank;
     let top = c.top;
-    let mut s = start;
+    let mut next = start;
     let mut k = 0;
     while k < ticks {
-        s = step(s, from + k, n, m, &bounds, &homes, &rank, &top, flat, count);
-        if s.late < n {
-            return s;
+        let r = stretch::stretch(
+            jobs,
+            due,
+            next,
+            (from + k) as u32,
+            (from + ticks) as u32,
+            n,
+            m,
+            &bounds,
+            &homes,
+            &rank,
+            &top,
+            flat,
+            count,
+            worst,
+            lane,
+        );
+        if r.late < n {
+            return Reached { next, late: r.late };
         }
-        let lane = s.lane;
-        put_lane(lane, m, trace, m * k);
-        k += 1;
+        put_lanes(lane, trace, m * k, r.ticks as usize);
+        next = r.next;
+        k += r.ticks as usize;
     }
-    s
+    Reached { next, late: n }
 }
 
 // Zeros at the front of the trace.
@@ -279,19 +221,42 @@ fn run_ticks(
 {
     let n = c.n;
     let size = c.m * ticks;
-    let before = wind(c, flat, count, from);
+    let mut jobs = jobs::no_jobs();
+    let mut due = no_dues();
+    let mut worst = machine::no_threes();
+    let mut lane = no_lane();
+    let before = wind(
+        c,
+        flat,
+        count,
+        from,
+        &mut jobs,
+        &mut due,
+        &mut worst,
+        &mut lane[..0],
+    );
     if before.late < n {
         wipe(trace, size);
         return refused(19, before.late as u32 + 1, 0);
     }
-    let s = play(c, before, flat, count, from, ticks, trace);
-    if s.late < n {
+    let after = play(
+        c,
+        flat,
+        count,
+        from,
+        ticks,
+        before.next,
+        &mut jobs,
+        &mut due,
+        &mut worst,
+        &mut lane[..c.m],
+        trace,
+    );
+    if after.late < n {
         wipe(trace, size);
-        return refused(19, s.late as u32 + 1, 0);
+        return refused(19, after.late as u32 + 1, 0);
     }
-    let jobs = s.jobs;
-    let worst = s.worst;
-    let tally = machine::count_up(jobs, n);
+    let tally = machine::count_up(&jobs, n);
     Ran {
         number: 0,
         names: 0,

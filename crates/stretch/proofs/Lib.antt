@@ -1,4 +1,6 @@
-pub mod Rows
-pub mod Quiet
-pub mod Steps
 pub mod Arriving
+pub mod Steps
+pub mod Rows
+pub mod Pushing
+pub mod Running
+pub mod Together

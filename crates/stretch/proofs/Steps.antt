@@ -1,33 +1,30 @@
--- A stretch of the machine's ticks, and what a run knows once it is skipped.
-use Prim.Native.Nat.{ℕ, zero, suc, _+_, _≤_, _<_}
-use mathlib.Core.Path.{_≡_, sym, _∙_, ap}
-use mathlib.Core.List.{List}
-use native.Mathlib.Omega.{arith}
+-- A stretch of ticks of the run from the empty start.
+use Prim.Native.Nat.{ℕ, zero, suc, _+_}
+use mathlib.Core.Path.{_≡_, ap}
 use native.Mathlib.Nat.{add-zero, add-suc}
-use Rattle.chain.specs.declared.Job.{Job}
-use Rattle.arrivals.specs.declared.Arrival.{Arrival}
-use Rattle.arrivals.specs.Arrival.{brings}
 use Rattle.machine.specs.declared.Chart.{Chart}
-use Rattle.machine.specs.Tick.{Arrivals, step, jobsAt, releasedAt, worstAt, lateAt}
-use Rattle.stretch.specs.Stretch.{stepsFrom, Skips}
+use Rattle.machine.specs.Tick.{Arrivals, lateRow, bytes, step, jobsAt, releasedAt, bytesAt, worstAt, lateAt}
+use Rattle.stretch.specs.Stretch.{stepsFrom, thereAfter, worstFrom}
 
-pub steps-from : (c : Chart) (ar : Arrivals) (t k : ℕ) → jobsAt c ar (t + k) ≡ stepsFrom c ar t k (jobsAt c ar t)
-unfolding stepsFrom jobsAt
-steps-from c ar t zero = rw (add-zero t)
-steps-from c ar t (suc k) = rw (add-suc t k) (ap (step c ar (t + k)) (steps-from c ar t k))
+module _ (c : Chart) (ar : Arrivals) (t : ℕ) where
+  pub steps-from : (k : ℕ) → jobsAt c ar (t + k) ≡ stepsFrom c ar t k (jobsAt c ar t)
+  unfolding stepsFrom jobsAt
+  steps-from zero = rw (add-zero t)
+  steps-from (suc k) = rw (add-suc t k) (ap (step c ar (t + k)) (steps-from k))
 
-module _ (c : Chart) (xs : List Arrival) (t k : ℕ) (js : List Job) (s : Skips c xs t (jobsAt c (brings xs) t) k js) where
-  pub skips-jobs : js ≡ jobsAt c (brings xs) (t + k)
-  skips-jobs = s .jobs ∙ sym (steps-from c (brings xs) t k)
+  there-from : (k : ℕ) → releasedAt c ar (t + k) ≡ thereAfter c ar t k (jobsAt c ar t)
+  unfolding releasedAt thereAfter
+  there-from k = rw (steps-from k)
 
-  pub skips-late : (j : ℕ) → j < k → lateAt c (brings xs) (t + j) ≡ c .n
+  pub worst-from : (k : ℕ) → worstAt c ar (t + k) ≡ worstFrom c ar t k (jobsAt c ar t) (worstAt c ar t)
+  unfolding worstAt worstFrom
+  worst-from zero = rw (add-zero t)
+  worst-from (suc k) = rw (add-suc t k, there-from k, worst-from k)
+
+  pub late-from : (j : ℕ) → lateAt c ar (t + j) ≡ lateRow (c .n) (c .bounds) ar (t + j) (stepsFrom c ar t j (jobsAt c ar t))
   unfolding lateAt
-  skips-late j h = rw (steps-from c (brings xs) t j) (s .timely j h)
+  late-from j = rw (steps-from j)
 
-  pub skips-worst : worstAt c (brings xs) (t + k) ≡ worstAt c (brings xs) t
-  unfolding worstAt releasedAt
-  skips-worst = go k (omega arith)
-    where
-      go : (j : ℕ) → j ≤ k → worstAt c (brings xs) (t + j) ≡ worstAt c (brings xs) t
-      go zero h = rw (add-zero t)
-      go (suc j) h = rw (add-suc t j, steps-from c (brings xs) t j) (s .unnoted j (omega arith) (worstAt c (brings xs) (t + j)) ∙ go j (omega arith))
+  pub bytes-from : (j : ℕ) → bytesAt c ar (t + j) ≡ bytes c (thereAfter c ar t j (jobsAt c ar t))
+  unfolding bytesAt
+  bytes-from j = rw (there-from j)

@@ -1,2 +1,2 @@
 pub mod Stretch
-pub mod Quiet
+pub mod Push

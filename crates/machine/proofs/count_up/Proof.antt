@@ -1,11 +1,11 @@
-use Prim.Native.Nat.{_*_, _-_, _≤_, _<_}
-use mathlib.Core.Path.{_≡_}
+use Prim.Native.Nat.{_*_, _-_, _≤_}
+use mathlib.Core.Path.{_≡_, sym, _∙_}
 use native.Mathlib.Omega.{arith}
 use borrow.Author.Needs.{needs}
-use lib.ListN.{length}
 use Rattle.chain.specs.Job.{jobAt}
 use Rattle.chain.specs.Owed.{owes}
-use Rattle.picks.proofs.Columns.{job-at}
+use Rattle.jobs.specs.Numbers.{jobsIn}
+use Rattle.jobs.proofs.Laws.{jobs-at}
 use Rattle.machine.specs.Counts.{tallyOf, total}
 use Rattle.machine.proofs.Served.{total-more}
 use Rattle.machine.proofs.count_up.Statement.{statement}
@@ -14,24 +14,21 @@ use Rattle.machine.proofs.count_up.Tie as tie
 -- `machine::count_up` meets its contract. The loop's invariant: the first i jobs are counted.
 
 abbrev Inv-loop : tie.InvT-loop
-Inv-loop n jobs ended₀ run₀ owed₀ i₀ ended run owed i =
+Inv-loop jobs n ended₀ run₀ owed₀ i₀ ended run owed i =
     (i ≤ n)
-    × (ended ≡ total i (λ k. jobAt jobs k .ended)) × (ended ≤ i * 4294967295)
-    × (run ≡ total i (λ k. jobAt jobs k .ran)) × (run ≤ i * 4294967295)
-    × (owed ≡ total i (λ k. owes (jobAt jobs k .lens) (jobAt jobs k .place))) × (owed ≤ i * 12884901885)
+    × (ended ≡ total i (λ k. jobAt (jobsIn jobs) k .ended)) × (ended ≤ i * 4294967295)
+    × (run ≡ total i (λ k. jobAt (jobsIn jobs) k .ran)) × (run ≤ i * 4294967295)
+    × (owed ≡ total i (λ k. owes (jobAt (jobsIn jobs) k .lens) (jobAt (jobsIn jobs) k .place))) × (owed ≤ i * 12884901885)
 
 abbrev μ-loop : tie.MeasureT-loop
-μ-loop n jobs ended₀ run₀ owed₀ i₀ ended run owed i = n - i
+μ-loop jobs n ended₀ run₀ owed₀ i₀ ended run owed i = n - i
 
 loop-holds : tie.Need-loop-holds Inv-loop μ-loop
 unfolding total
 loop-holds c = search needs
 
-mul-x : tie.Need-mul-x Inv-loop μ-loop
-mul-x c = search needs
-
-array-copy-out-x : tie.Need-array-copy-out-x Inv-loop μ-loop
-array-copy-out-x c = search needs
+job-at-requires : tie.Need-job-at-requires Inv-loop μ-loop
+job-at-requires c κs = search needs
 
 cast-ended : tie.Need-cast-ended Inv-loop μ-loop
 cast-ended c = search needs
@@ -47,10 +44,8 @@ add-run c = omega (arith, c .struct-known2 .given .1 .1 .1 .1 .1 .0 .fits)
 
 owed-requires : tie.Need-owed-requires Inv-loop μ-loop
 owed-requires c κs =
-    let s = c .before .before .before .before .before in
-    let i = c .before .before .before .before .loop .i in
-    let b : i < length (s .args .t1) = omega (arith, s .good .0 .1 .0 .1) in
-    rw (job-at (s .args .t1) i b) at (s .pre .1 i (omega arith))
+    let s = c .before .before .before .before .before .before in
+    rw (c .before .before .job-at .ensures) (s .pre .2 (c .before .before .before .before .loop .i) (omega arith))
 
 add-owed : tie.Need-add-owed Inv-loop μ-loop
 add-owed c = search needs
@@ -63,25 +58,26 @@ loop-less c = search needs
 
 loop-again : tie.Need-loop-again Inv-loop μ-loop
 loop-again c =
-    let s = c .before .before .before .before .before .before in
+    let s = c .before .before .before .before .before .before .before in
     let l = c .before .before .before .before .before .loop in
     let v = l .inv in
-    let b : l .i < length (s .args .t1) = omega (arith, s .good .0 .1 .0 .1) in
+    let js = jobsIn (s .args .jobs .now) in
+    let x : c .before .before .before .job-at .result ≡ jobAt js (l .i) = c .before .before .before .job-at .ensures ∙ sym (jobs-at (s .args .jobs .now) (l .i) (omega arith)) in
     let ended = c .before .before .struct-known .given .1 .1 .1 .1 .0 .fits in
     let ran = c .before .struct-known2 .given .1 .1 .1 .1 .1 .0 .fits in (
       omega arith,
-      total-more (λ x. x .ended) (s .args .t1) (l .i) (l .ended) b (v .1),
+      rw x (total-more (λ x. x .ended) js (l .i) (l .ended) (v .1)),
       omega (arith, ended),
-      total-more (λ x. x .ran) (s .args .t1) (l .i) (l .run) b (v .3),
+      rw x (total-more (λ x. x .ran) js (l .i) (l .run) (v .3)),
       omega (arith, ran),
-      rw (c .owed .ensures .0) (total-more (λ x. owes (x .lens) (x .place)) (s .args .t1) (l .i) (l .owed) b (v .5)),
+      rw (c .owed .ensures .0, x) (total-more (λ x. owes (x .lens) (x .place)) js (l .i) (l .owed) (v .5)),
       omega arith,
     )
 
 returns : tie.Need-returns Inv-loop μ-loop
 unfolding tallyOf
 returns c =
-    let e : c .before .loop .i ≡ c .before .before .args .n = omega arith in
+    let e : c .before .loop .i ≡ c .before .before .before .args .n = omega arith in
     let v = c .before .loop .inv in
     rw (v .1, v .3, v .5, e)
 
@@ -92,8 +88,7 @@ count-up-spec =
     Inv-loop
     μ-loop
     loop-holds
-    mul-x
-    array-copy-out-x
+    job-at-requires
     cast-ended
     add-ended
     cast-run

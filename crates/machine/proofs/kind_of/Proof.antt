@@ -5,7 +5,7 @@ use native.Mathlib.Omega.{arith}
 use native.Mathlib.Numerals.{add-one}
 use borrow.Author.Needs.{needs}
 use Rattle.machine.specs.Tick.{kindOf}
-use Rattle.machine.proofs.Places.{rests, part-small}
+use Rattle.chain.proofs.Places.{rests, part-small}
 use Rattle.machine.proofs.kind_of.Statement.{statement}
 use Rattle.machine.proofs.kind_of.Tie as tie
 

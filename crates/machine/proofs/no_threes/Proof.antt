@@ -4,7 +4,6 @@ use Rattle.lists.specs.Tab.{blank}
 use Rattle.machine.proofs.no_threes.Statement.{statement}
 use Rattle.machine.proofs.no_threes.Tie as tie
 
--- src/lib.rt:72:1
 returns : tie.Need-returns
 unfolding blank
 returns c = refl

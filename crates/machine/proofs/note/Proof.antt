@@ -10,7 +10,7 @@ use Rattle.chain.specs.declared.Place.the-variants.{Running}
 use Rattle.chain.specs.declared.Job.{Job}
 use Rattle.chain.specs.Unit.{response}
 use Rattle.machine.specs.Tick.{notedAt}
-use Rattle.machine.proofs.Places.{rests, part-small}
+use Rattle.chain.proofs.Places.{rests, part-small}
 use Rattle.machine.proofs.note.Statement.{statement}
 use Rattle.machine.proofs.note.Tie as tie
 

@@ -11,7 +11,7 @@ use Rattle.chain.specs.declared.Job.{Job}
 use Rattle.chain.specs.Unit.{unitOf}
 use Rattle.picks.specs.Pick.{home}
 use Rattle.machine.specs.Tick.{serveAt, serve}
-use Rattle.machine.proofs.Places.{rests, part-small}
+use Rattle.chain.proofs.Places.{rests, part-small}
 use Rattle.machine.proofs.serve_job.Statement.{statement}
 use Rattle.machine.proofs.serve_job.Tie as tie
 

@@ -1,38 +1,42 @@
 -- `picks::look_over` meets its contract. The loop's invariant: the columns have what each processor has to choose from among the first i rows.
 use Prim.Native.Nat.{_-_, _≤_, _<_}
-use mathlib.Core.Path.{_≡_}
+use mathlib.Core.Path.{_≡_, sym, _∙_, ap}
 use mathlib.Core.Logic.{⊎-elim}
 use native.Mathlib.Omega.{arith}
 use borrow.Author.Needs.{needs}
-use Rattle.picks.proofs.Columns.{job-at, part-small, Columns, columns-none, columns-same, columns-all, columns-idle, columns-stage, columns-first, columns-held}
+use Rattle.chain.specs.Good.{partOf, GoodJob}
+use Rattle.jobs.specs.Numbers.{jobsIn}
+use Rattle.jobs.proofs.Laws.{jobs-at}
+use Rattle.picks.proofs.Columns.{Columns, columns-none, columns-same, columns-all, columns-idle, columns-stage, columns-first, columns-held}
 use Rattle.picks.proofs.look_over.Statement.{statement}
 use Rattle.picks.proofs.look_over.Tie as tie
 
 abbrev Inv-loop : tie.InvT-loop
-Inv-loop homes rank top n jobs first₀ last₀ stage₀ held₀ i₀ first last stage held i =
-    (i ≤ n) × Columns homes rank top n jobs i first last stage held
+Inv-loop jobs homes rank top n first₀ last₀ stage₀ held₀ i₀ first last stage held i =
+    (i ≤ n) × Columns homes rank top n (jobsIn jobs) i first last stage held
 
 abbrev μ-loop : tie.MeasureT-loop
-μ-loop homes rank top n jobs first₀ last₀ stage₀ held₀ i₀ first last stage held i = n - i
+μ-loop jobs homes rank top n first₀ last₀ stage₀ held₀ i₀ first last stage held i = n - i
 
 loop-holds : tie.Need-loop-holds Inv-loop μ-loop
 loop-holds c = (search needs, columns-none _ _ _ _ _)
 
-mul-x : tie.Need-mul-x Inv-loop μ-loop
-mul-x c = search needs
-
-array-copy-out-x : tie.Need-array-copy-out-x Inv-loop μ-loop
-array-copy-out-x c = search needs
+job-at-requires : tie.Need-job-at-requires Inv-loop μ-loop
+job-at-requires c κs =
+    let s = c .before .before .before in
+    (omega (arith, s .pre .1 .few), s .pre .0)
 
 enum-known-p : tie.Need-enum-known-p Inv-loop μ-loop
 enum-known-p c = search needs
 
 home-of-requires : tie.Need-home-of-requires Inv-loop μ-loop
 home-of-requires c κs =
-    let s = c .before .before .before .before .before .before in
-    let t = c .before .before .before .before .loop-test .taken in
-    let b : c .before .before .before .before .before .loop .i < 64 = omega (arith, s .pre .0 .few) in
-    (b, part-small (s .args .t1) (s .args .n) _ _ (c .before .p .given .0 .1 .0) (s .pre .1) t (omega (arith, s .good .0 .1 .0 .1)) (c .before .p .given .1), s .pre .0 .on)
+    let l = c .before .before .before .before .before .loop in
+    let s = c .before .before .before .before .before .before .before in
+    let b : l .i < 64 = omega (arith, s .pre .1 .few) in
+    let job = jobs-at (s .args .jobs .now) (l .i) b ∙ sym (c .before .before .before .job-at .ensures) in
+    let good : GoodJob (c .before .before .before .job-at .result) = rw job at (s .pre .2 (l .i) (c .before .before .before .before .loop-test .taken)) in
+    (b, omega (arith, ap partOf (c .before .p .given .1), good .part), s .pre .1 .on)
 
 mul-b : tie.Need-mul-b Inv-loop μ-loop
 mul-b c = search needs
@@ -121,8 +125,9 @@ loop-less c = search needs
 loop-again : tie.Need-loop-again Inv-loop μ-loop
 loop-again c =
     let l = c .before .before .before .loop in
-    let ranked = c .before .before .before .before .pre .0 .ranked (l .i) (c .before .before .loop-test .taken) in
-    let job = job-at (c .before .before .before .before .args .t1) (l .i) (omega (arith, c .before .before .before .before .good .0 .1 .0 .1, c .before .before .before .before .pre .0 .few)) in (
+    let s = c .before .before .before .before .before in
+    let ranked = s .pre .1 .ranked (l .i) (c .before .before .loop-test .taken) in
+    let job = jobs-at (s .args .jobs .now) (l .i) (omega (arith, s .pre .1 .few)) ∙ sym (c .before .job-at .ensures) in (
       search needs,
       ⊎-elim
           (λ w.
@@ -144,7 +149,7 @@ loop-again c =
 
 returns : tie.Need-returns Inv-loop μ-loop
 returns c =
-    let e : c .before .loop .i ≡ c .before .before .args .n = omega arith in
+    let e : c .before .loop .i ≡ c .before .before .before .args .n = omega arith in
     columns-all _ _ _ _ _ _ _ _ _ (rw e at (c .before .loop .inv .1))
 
 pub look-over-spec : {M : Type 1} → statement M
@@ -154,8 +159,7 @@ look-over-spec =
     Inv-loop
     μ-loop
     loop-holds
-    mul-x
-    array-copy-out-x
+    job-at-requires
     enum-known-p
     home-of-requires
     mul-b

@@ -7,32 +7,27 @@ use borrow.Author.Needs.{needs}
 use lib.ListN.{getD}
 use lib.Dec.{ltb}
 use Rattle.lists.specs.Tab.{tab, filled}
-use Rattle.lists.proofs.Tab.{filled-none, filled-next, filled-all}
+use Rattle.lists.proofs.Tab.{filled-none, filled-next, filled-all, tab-same}
+use Rattle.jobs.specs.Numbers.{jobsIn}
 use Rattle.picks.specs.Pick.{chosen}
 use Rattle.picks.specs.Offer.{Best, nobody}
 use Rattle.picks.proofs.Picked.{pick-is}
 use Rattle.picks.proofs.picks.Statement.{statement}
 use Rattle.picks.proofs.picks.Tie as tie
 
--- lists that agree at each place
-tab-same : (n : ℕ) (f g : ℕ → ℕ) → ((q : ℕ) → q < n → f q ≡ g q) → tab n f ≡ tab n g
-unfolding tab
-tab-same zero f g h = refl
-tab-same (suc n) f g h = rw (tab-same n f g (λ q b. h q (omega arith)), h n (omega arith))
-
 abbrev choice : List Best → List Best → List Best → List ℕ → ℕ → ℕ
 choice first last stage held q =
     chosen (getD first q (nobody 0) .row) (getD last q (nobody 0) .row) (getD stage q (nobody 0) .row) (ltb (getD first q (nobody 0) .key) (getD held q 0))
 
 abbrev Inv-loop : tie.InvT-loop
-Inv-loop homes rank top n first last stage held out₀ q₀ out q =
+Inv-loop jobs homes rank top n first last stage held out₀ q₀ out q =
     (q ≤ 17) × (out ≡ filled 17 0 q (choice first last stage held))
 
 abbrev μ-loop : tie.MeasureT-loop
-μ-loop homes rank top n first last stage held out₀ q₀ out q = 17 - q
+μ-loop jobs homes rank top n first last stage held out₀ q₀ out q = 17 - q
 
 look-over-requires : tie.Need-look-over-requires Inv-loop μ-loop
-look-over-requires c κs = c .pre
+look-over-requires c κs = c .before .pre
 
 no-numbered-requires : tie.Need-no-numbered-requires Inv-loop μ-loop
 no-numbered-requires c κs = search needs
@@ -86,11 +81,11 @@ loop-again c =
 
 returns : tie.Need-returns Inv-loop μ-loop
 returns c =
-    let s = c .before .before .before .before .before .before .before .before in
+    let s = c .before .before .before .before .before .before .before .before .before in
     let o = c .before .before .before .before .before .before .before .look-over in
     let e : c .before .loop .q ≡ 17 = omega arith in
     (rw e at (c .before .loop .inv .1)) ∙ filled-all 17 0 _
-    ∙ tab-same 17 _ _ (λ q b. pick-is (s .args .homes .now) (s .args .rank .now) (s .args .top .now) (s .args .n) (s .args .jobs) q (s .pre .0 .ranked) (o .ensures q b))
+    ∙ tab-same 17 _ _ (λ q b. pick-is (s .args .homes .now) (s .args .rank .now) (s .args .top .now) (s .args .n) (jobsIn (s .args .jobs .now)) q (s .pre .1 .ranked) (o .ensures q b))
 
 pub picks-spec : {M : Type 1} → statement M
 picks-spec =

@@ -1,11 +1,9 @@
+-- `run::no_lane` meets its contract.
 use Rattle.lists.specs.Tab.{blank}
 use mathlib.Core.Path.{refl}
 use Rattle.run.proofs.no_lane.Statement.{statement}
 use Rattle.run.proofs.no_lane.Tie as tie
-use Rattle.run.proofs.no_lane.Reads as reads
-use Rattle.run.proofs.no_lane.Lts as lts
 
--- src/lib.rt:75:1
 returns : tie.Need-returns
 unfolding blank
 returns c = refl

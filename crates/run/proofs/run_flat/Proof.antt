@@ -1,5 +1,6 @@
+-- `run::run_flat` meets its contract: the refusals 1 to 18 in their order, then the ticks.
 use Prim.Native.Nat.{ℕ, _≤_}
-use mathlib.Core.Path.{_≡_}
+use mathlib.Core.Path.{_≡_, sym, _∙_, ap}
 use lib.ListN.{length}
 use Rattle.run.specs.Run.{steppedOf, shownOf}
 use Rattle.machine.specs.Chart.{chartOf}
@@ -7,36 +8,23 @@ use Rattle.machine.specs.declared.Chart.{Chart}
 use Rattle.plan.specs.declared.Tried.{Tried}
 use Rattle.arrivals.proofs.Flat.{length-arrivals}
 use Rattle.run.proofs.Charted.{good-chart, coming}
-use mathlib.Core.Path.{sym, _∙_, ap}
 use native.Mathlib.Omega.{arith}
 use Rattle.table.proofs.Good.{table-good}
 use Rattle.arrivals.specs.Arrival.{arrivalsOf}
-use Rattle.run.proofs.Charted.{good-chart}
-use Rattle.run.proofs.Calls.{bad-table, no-plan, bad-call, runs, accepted}
+use Rattle.run.proofs.Calls.{bad-table, no-plan, bad-call, runs, allowed}
 use borrow.Author.Needs.{needs}
 use Rattle.run.proofs.run_flat.Statement.{statement}
 use Rattle.run.proofs.run_flat.Tie as tie
-use Rattle.run.proofs.run_flat.Reads as reads
-use Rattle.run.proofs.run_flat.Lts as lts
-use Rattle.machine.proofs.chart_of.Reads as chart-of-reads
-use Rattle.plan.proofs.plan_table.Reads as plan-table-reads
-use Rattle.run.proofs.check_call.Reads as check-call-reads
-use Rattle.run.proofs.refused.Reads as refused-reads
-use Rattle.run.proofs.run_ticks.Reads as run-ticks-reads
-use Rattle.table.proofs.read_table.Reads as read-table-reads
 
--- src/lib.rt:242:9
 none : {x : ℕ} → x ≤ 0 → x ≡ 0
 none h = omega arith
 
 read-table-requires : tie.Need-read-table-requires
 read-table-requires c κs = search needs
 
--- src/lib.rt:244:9
 refused-requires : tie.Need-refused-requires
 refused-requires c κs = search needs
 
--- src/lib.rt:244:9
 returns : tie.Need-returns
 returns c =
     let r = c .before .before .before .read-table .result in
@@ -45,7 +33,6 @@ returns c =
     let xs = arrivalsOf (a .flat .now) (a .count) in
     rw (sym e, c .refused .ensures) (bad-table r xs (a .from) (a .ticks) (a .trace .now) (c .before .if1 .taken))
 
--- src/lib.rt:247:9
 plan-table-requires : tie.Need-plan-table-requires
 plan-table-requires c κs =
     let r = c .before .before .before .read-table .result in
@@ -54,15 +41,12 @@ plan-table-requires c κs =
     let xs = arrivalsOf (a .flat .now) (a .count) in
     table-good (a .table .now) r e (omega (arith, c .before .if1 .left))
 
--- src/lib.rt:249:28
 enum-known-outcome : tie.Need-enum-known-outcome
 enum-known-outcome c = search needs
 
--- src/lib.rt:250:9
 refused-requires-2 : tie.Need-refused-requires-2
 refused-requires-2 c κs = search needs
 
--- src/lib.rt:250:9
 returns-2 : tie.Need-returns-2
 returns-2 c =
     let r = c .before .before .before .before .before .before .before .before .read-table .result in
@@ -74,7 +58,6 @@ returns-2 c =
 enum-told : tie.Need-enum-told
 enum-told c = search needs
 
--- src/lib.rt:252:9
 check-call-requires : tie.Need-check-call-requires
 check-call-requires c κs =
     let r = c .before .before .before .before .before .before .read-table .result in
@@ -83,11 +66,9 @@ check-call-requires c κs =
     let xs = arrivalsOf (a .flat .now) (a .count) in
     (c .before .before .before .before .before .before .before .before .before .before .pre, table-good (a .table .now) r e (omega (arith, c .before .before .before .before .if1 .left)))
 
--- src/lib.rt:254:9
 refused-requires-3 : tie.Need-refused-requires-3
 refused-requires-3 c κs = search needs
 
--- src/lib.rt:254:9
 returns-3 : tie.Need-returns-3
 returns-3 c =
     let r = c .before .before .before .before .before .before .before .before .before .before .read-table .result in
@@ -96,7 +77,6 @@ returns-3 c =
     let xs = arrivalsOf (a .flat .now) (a .count) in
     rw (sym e, c .refused3 .ensures) (bad-call r xs (a .from) (a .ticks) (a .trace .now) (omega (arith, c .before .before .before .before .before .before .before .before .if1 .left)) (c .before .before .before .before .before .before .plan-table .result) (c .before .before .before .before .before .before .plan-table .ensures) (c .before .before .before .before .enum-told .given .1) (c .before .before .before .check-call .result .number) (c .before .before .before .check-call .result .position) (c .before .before .before .check-call .ensures) (c .before .if2 .taken))
 
--- src/lib.rt:257:9
 chart-of-requires : tie.Need-chart-of-requires
 chart-of-requires c κs =
     let r = c .before .before .before .before .before .before .before .before .before .before .read-table .result in
@@ -105,7 +85,6 @@ chart-of-requires c κs =
     let xs = arrivalsOf (a .flat .now) (a .count) in
     table-good (a .table .now) r e (omega (arith, c .before .before .before .before .before .before .before .before .if1 .left))
 
--- src/lib.rt:258:5
 run-ticks-requires : tie.Need-run-ticks-requires
 unfolding chartOf
 run-ticks-requires c κs =
@@ -116,15 +95,13 @@ run-ticks-requires c κs =
     let g = table-good (a .table .now) r e (omega (arith, c .before .before .before .before .before .before .before .before .before .before .if1 .left)) in
     let p = c .before .before .before .before .before .before .before .before .plan-table .ensures in
     let o = c .before .before .before .before .before .before .enum-told .given .1 in
-    let k = accepted (r .table) xs (a .from) (a .ticks) (length (a .trace .now)) (sym (c .before .before .before .before .before .check-call .ensures .0) ∙ none (c .before .before .before .if2 .left)) in
+    let k = allowed (r .table) xs (a .from) (a .ticks) (length (a .trace .now)) (sym (c .before .before .before .before .before .check-call .ensures .0) ∙ none (c .before .before .before .if2 .left)) in
     rw (c .before .chart-of .ensures, p)
     (k .early, k .short, omega (arith, length-arrivals (a .flat .now) (a .count), k .few), c .before .before .before .before .before .before .before .before .before .before .before .before .before .before .before .before .pre, good-chart (r .table) g (ap (λ (x : Tried). x .outcome) (sym p) ∙ o), k .room, coming (r .table) g xs (k .few) (k .good))
 
--- src/lib.rt:238:1
 same-length : tie.Need-same-length
 same-length c = search needs
 
--- src/lib.rt:238:1
 returns-4 : tie.Need-returns-4
 returns-4 c =
     let r = c .before .before .before .before .before .before .before .before .before .before .before .before .before .before .before .read-table .result in

@@ -1,137 +1,162 @@
-use Rattle.run.specs.Run.{done}
-use mathlib.Core.Path.{sym, subst}
-use Rattle.arrivals.specs.Arrival.{brings}
-use Rattle.chain.specs.Good.{GoodJob}
-use Rattle.chain.specs.Job.{jobAt}
-use Rattle.chain.specs.declared.Job.{Job}
-use Rattle.machine.proofs.Keep.{good-at}
-use Prim.Native.Nat.{ℕ, _+_, _*_}
+-- `run::run_ticks` meets its contract: from the empty start through the ticks before the window and those of the window.
+use Prim.Native.Nat.{ℕ, _+_, _*_, _≤_}
+use mathlib.Core.Path.{_≡_, sym, ap, _∙_}
 use mathlib.Core.List.{List, _++_}
-use mathlib.Core.Path.{_∙_, ap}
-use Rattle.lists.specs.Tab.{blank}
-use Rattle.arrivals.specs.Arrival.{arrivalsOf}
 use native.Mathlib.Omega.{arith}
-use native.Mathlib.Nat.{mul-le-mul-left, mul-le-mul-right}
-use Rattle.run.proofs.Steps.{went-on, stands-on}
+use lib.ListN.{length, length-append}
+use lib.Seq.{length-take-le}
+use Rattle.lists.specs.Tab.{blank}
+use Rattle.lists.proofs.Tab.{length-blank}
+use Rattle.arrivals.specs.Arrival.{arrivalsOf}
+use Rattle.run.specs.Run.{done}
+use Rattle.run.proofs.Steps.{starts, good-in}
 use Rattle.run.proofs.Ends.{fell, stood}
 use borrow.Author.Needs.{needs}
 use Rattle.run.proofs.run_ticks.Statement.{statement}
 use Rattle.run.proofs.run_ticks.Tie as tie
-use Rattle.run.proofs.run_ticks.Reads as reads
-use Rattle.run.proofs.run_ticks.Lts as lts
-use Rattle.machine.proofs.count_up.Reads as count-up-reads
-use Rattle.run.proofs.play.Reads as play-reads
-use Rattle.run.proofs.refused.Reads as refused-reads
-use Rattle.run.proofs.wind.Reads as wind-reads
-use Rattle.run.proofs.wipe.Reads as wipe-reads
 
--- src/lib.rt:191:16
 mul-size : tie.Need-mul-size
-mul-size c =
-    omega (arith, mul-le-mul-left (c .before .before .before .args .c .m) (c .before .before .before .pre .1), mul-le-mul-right 4096 (c .before .before .before .pre .4 .processors))
+mul-size c = search needs
 
--- src/lib.rt:192:9
+no-jobs-requires : tie.Need-no-jobs-requires
+no-jobs-requires c κs = search needs
+
+no-dues-requires : tie.Need-no-dues-requires
+no-dues-requires c κs = search needs
+
+no-threes-requires : tie.Need-no-threes-requires
+no-threes-requires c κs = search needs
+
+no-lane-requires : tie.Need-no-lane-requires
+no-lane-requires c κs = search needs
+
+slice-aggregate-wind : tie.Need-slice-aggregate-wind
+slice-aggregate-wind c = search needs
+
+slice-aggregate-wind-2 : tie.Need-slice-aggregate-wind-2
+slice-aggregate-wind-2 c = search needs
+
+slice-aggregate-wind-3 : tie.Need-slice-aggregate-wind-3
+slice-aggregate-wind-3 c = search needs
+
+array-borrow-prefix-lane : tie.Need-array-borrow-prefix-lane
+array-borrow-prefix-lane c = search needs
+
+slice-aggregate-wind-4 : tie.Need-slice-aggregate-wind-4
+slice-aggregate-wind-4 c = search needs
+
 wind-requires : tie.Need-wind-requires
 wind-requires c κs =
-    (omega (arith, c .before .before .before .pre .0), c .before .before .before .pre .2, c .before .before .before .pre .3, c .before .before .before .pre .4, c .before .before .before .pre .6)
+    let s = c .before .before .before .before .before .before .before .before .before .before .before in
+    let p = s .pre in
+    let start = starts (s .args .c) (arrivalsOf (s .args .flat .now) (s .args .count)) (p .4 .homed .few) (p .6) in
+    (omega (arith, p .0), p .2, p .3, p .4, omega arith, rw (c .before .before .before .before .before .before .before .no-jobs .ensures, c .before .before .before .before .before .before .no-dues .ensures, c .before .before .before .before .before .no-threes .ensures) start)
 
--- src/lib.rt:194:9
 wipe-requires : tie.Need-wipe-requires
 wipe-requires c κs = search needs
 
--- src/lib.rt:195:28
 cast-refused : tie.Need-cast-refused
-cast-refused c =
-    omega (arith, c .before .before .before .before .before .before .before .before .before .before .before .pre .4 .homed .few)
+cast-refused c = omega (arith, c .before .before .before .before .before .before .before .before .before .before .before .before .before .before .before .before .before .before .before .before .before .before .before .pre .4 .homed .few, c .before .before .before .before .before .if1 .taken)
 
--- src/lib.rt:195:28
 add-refused : tie.Need-add-refused
-add-refused c =
-    omega (arith, c .before .before .before .before .before .before .before .before .before .before .before .pre .4 .homed .few)
+add-refused c = omega (arith, c .before .before .before .before .before .before .before .before .before .before .before .before .before .before .before .before .before .before .before .before .before .before .before .pre .4 .homed .few, c .before .before .before .before .before .if1 .taken)
 
--- src/lib.rt:195:9
 refused-requires : tie.Need-refused-requires
 refused-requires c κs = search needs
 
--- src/lib.rt:195:9
 same-length : tie.Need-same-length
 same-length c = search needs
 
--- src/lib.rt:195:9
 returns : tie.Need-returns
 returns c =
-    let a = c .before .before .before .before .before .before .before .before .before .before .before .before .args in
-    let xs = arrivalsOf (a .flat .now) (a .count) in
-    let s = c .before .before .before .before .before .before .before .before .wind .result in
-    let e = fell (a .c) xs (a .from) (a .ticks) (a .trace .now) s (went-on (a .c) xs (a .from) (a .from + a .ticks) s (omega arith) (c .before .before .before .before .before .before .if1 .taken) (c .before .before .before .before .before .before .before .before .wind .ensures) .falls (c .before .before .before .before .before .before .if1 .taken)) in
+    let a = c .before .before .before .before .before .before .before .before .before .before .before .before .before .before .before .before .before .before .before .before .before .before .before .before .args in
+    let w = c .before .before .before .before .before .before .before .before .before .before .before .before .wind in
+    let e = fell (a .c) (arrivalsOf (a .flat .now) (a .count)) (a .from) (a .ticks) (a .trace .now) (a .from) (w .result .late) (omega arith) (w .ensures .falls (c .before .before .before .before .before .before .if1 .taken)) in
     (c .refused .ensures ∙ e .0, c .before .before .before .before .wipe .ensures ∙ e .1)
 
--- src/lib.rt:197:9
+slice-aggregate-play : tie.Need-slice-aggregate-play
+slice-aggregate-play c = search needs
+
+slice-aggregate-play-2 : tie.Need-slice-aggregate-play-2
+slice-aggregate-play-2 c = search needs
+
+slice-aggregate-play-3 : tie.Need-slice-aggregate-play-3
+slice-aggregate-play-3 c = search needs
+
+-- whatever a call left of it, a lane has a byte for each processor
+lane-room : (u l : List ℕ) (m : ℕ) → l ≡ blank 16 0 → m ≤ 16 → m ≤ length (u ++ l)
+lane-room u l m e h = omega (arith, length-append u l, ap length e, length-blank {A = ℕ} 16 0)
+
+array-borrow-prefix-lane-2 : tie.Need-array-borrow-prefix-lane-2
+array-borrow-prefix-lane-2 c = lane-room (c .before .before .before .before .before .before .before .before .before .wind .last .1 .1 .1 .1 .1 .1 .1 .0) _ _ (c .before .before .before .before .before .before .before .before .before .before .before .before .before .before .no-lane .ensures) (c .before .before .before .before .before .before .before .before .before .before .before .before .before .before .before .before .before .before .before .before .before .pre .4 .processors)
+
+slice-aggregate-play-4 : tie.Need-slice-aggregate-play-4
+slice-aggregate-play-4 c = sym (length-take-le _ _ (lane-room (c .before .before .before .before .before .before .before .before .before .before .wind .last .1 .1 .1 .1 .1 .1 .1 .0) _ _ (c .before .before .before .before .before .before .before .before .before .before .before .before .before .before .before .no-lane .ensures) (c .before .before .before .before .before .before .before .before .before .before .before .before .before .before .before .before .before .before .before .before .before .before .pre .4 .processors)))
+
 play-requires : tie.Need-play-requires
 play-requires c κs =
-    let a = c .before .before .before .before .before .before .before .args in
-    (c .before .before .before .before .before .before .before .pre .0, c .before .before .before .before .before .before .before .pre .2, c .before .before .before .before .before .before .before .pre .3, c .before .before .before .before .before .before .before .pre .4, c .before .before .before .before .before .before .before .pre .5, stands-on (a .c) (arrivalsOf (a .flat .now) (a .count)) (a .from) (c .before .before .before .wind .result) (omega (arith, c .before .if1 .left)) (c .before .before .before .wind .ensures))
+    let p = c .before .before .before .before .before .before .before .before .before .before .before .before .before .before .before .before .before .before .before .before .before .before .before .pre in
+    let w = c .before .before .before .before .before .before .before .before .before .before .before .wind .ensures in
+    (p .0, p .2, p .3, p .4, length-take-le _ _ (lane-room (c .before .before .before .before .before .before .before .before .before .before .before .wind .last .1 .1 .1 .1 .1 .1 .1 .0) _ _ (c .before .before .before .before .before .before .before .before .before .before .before .before .before .before .before .before .no-lane .ensures) (p .4 .processors)), p .5, w .stands (omega (arith, w .either, c .before .before .before .before .before .if1 .left)))
 
--- src/lib.rt:199:9
 wipe-requires-2 : tie.Need-wipe-requires-2
-wipe-requires-2 c κs = search needs
+wipe-requires-2 c κs = rw (c .before .before .before .before .trace2 .given) (c .before .before .before .before .before .before .before .before .before .before .before .before .before .before .before .before .before .before .before .before .before .before .before .before .before .before .before .before .before .before .before .before .before .pre .5)
 
--- src/lib.rt:200:28
 cast-refused-2 : tie.Need-cast-refused-2
-cast-refused-2 c =
-    omega (arith, c .before .before .before .before .before .before .before .before .before .before .before .before .before .before .before .before .before .pre .4 .homed .few, c .before .before .before .before .before .if2 .taken)
+cast-refused-2 c = omega (arith, c .before .before .before .before .before .before .before .before .before .before .before .before .before .before .before .before .before .before .before .before .before .before .before .before .before .before .before .before .before .before .before .before .before .before .before .before .before .pre .4 .homed .few, c .before .before .before .before .before .if2 .taken)
 
--- src/lib.rt:200:28
 add-refused-2 : tie.Need-add-refused-2
-add-refused-2 c =
-    omega (arith, c .before .before .before .before .before .before .before .before .before .before .before .before .before .before .before .before .before .pre .4 .homed .few, c .before .before .before .before .before .if2 .taken)
+add-refused-2 c = omega (arith, c .before .before .before .before .before .before .before .before .before .before .before .before .before .before .before .before .before .before .before .before .before .before .before .before .before .before .before .before .before .before .before .before .before .before .before .before .before .pre .4 .homed .few, c .before .before .before .before .before .if2 .taken)
 
--- src/lib.rt:200:9
 refused-requires-2 : tie.Need-refused-requires-2
 refused-requires-2 c κs = search needs
 
--- src/lib.rt:200:9
 same-length-2 : tie.Need-same-length-2
 same-length-2 c = search needs
 
--- src/lib.rt:200:9
 returns-2 : tie.Need-returns-2
 returns-2 c =
-    let a = c .before .before .before .before .before .before .before .before .before .before .before .before .before .before .before .before .before .before .args in
-    let xs = arrivalsOf (a .flat .now) (a .count) in
-    let s = c .before .before .before .before .before .before .before .before .before .before .play .result in
-    let p = c .before .before .before .before .before .before .before .before .before .before .play .ensures in
-    let e = fell (a .c) xs (a .from) (a .ticks) (a .trace .now) s (p .0 .falls (c .before .before .before .before .before .before .if2 .taken)) in
-    (c .refused2 .ensures ∙ e .0, c .before .before .before .before .wipe2 .ensures ∙ ap (λ (l : List ℕ). blank (a .c .m * a .ticks) 0 ++ l) (p .1) ∙ e .1)
+    let a = c .before .before .before .before .before .before .before .before .before .before .before .before .before .before .before .before .before .before .before .before .before .before .before .before .before .before .before .before .before .before .before .before .before .before .before .before .before .before .args in
+    let r = c .before .before .before .before .before .before .before .before .before .before .before .before .before .before .play in
+    let e = fell (a .c) (arrivalsOf (a .flat .now) (a .count)) (a .from) (a .ticks) (a .trace .now) (a .from + a .ticks) (r .result .late) (omega arith) (r .ensures .0 .falls (c .before .before .before .before .before .before .if2 .taken)) in
+    (c .refused2 .ensures ∙ e .0, c .before .before .before .before .wipe2 .ensures ∙ ap (λ (l : List ℕ). blank (a .c .m * a .ticks) 0 ++ l) (r .ensures .1) ∙ e .1)
 
--- src/lib.rt:204:9
+slice-aggregate-count-up : tie.Need-slice-aggregate-count-up
+slice-aggregate-count-up c = search needs
+
 count-up-requires : tie.Need-count-up-requires
 count-up-requires c κs =
-    let a = c .before .before .before .before .before .before .before .before .before .before .before .before .before .before .args in
-    let xs = arrivalsOf (a .flat .now) (a .count) in
-    let s = stands-on (a .c) xs (a .from + a .ticks) (c .before .before .before .before .before .before .play .result) (omega (arith, c .before .before .if2 .left)) (c .before .before .before .before .before .before .play .ensures .0) in
-    (c .before .before .before .before .before .before .before .before .before .before .before .before .before .before .pre .4 .homed .few, λ i h. subst (λ (js : List Job). GoodJob (jobAt js i)) (sym (s .jobs)) (good-at (a .c) (brings xs) (a .from + a .ticks) (c .before .before .before .before .before .before .before .before .before .before .before .before .before .before .pre .0) i h .0))
+    let p = c .before .before .before .before .before .before .before .before .before .before .before .before .before .before .before .before .before .before .before .before .before .before .before .before .before .before .before .before .before .before .before .before .before .pre in
+    let w = c .before .before .before .before .before .before .before .before .before .play .ensures .0 in
+    let st = w .stands (omega (arith, w .either, c .before .if2 .left)) in
+    (p .4 .homed .few, st .whole, good-in st (p .4) (p .0))
 
--- src/lib.rt:186:1
 same-length-3 : tie.Need-same-length-3
 same-length-3 c = search needs
 
--- src/lib.rt:186:1
 returns-3 : tie.Need-returns-3
 returns-3 c =
-    let a = c .before .before .before .before .before .before .before .before .before .before .before .before .before .before .before .args in
-    let xs = arrivalsOf (a .flat .now) (a .count) in
-    let s = c .before .before .before .before .before .before .before .play .result in
-    let p = c .before .before .before .before .before .before .before .play .ensures in
-    let st = stands-on (a .c) xs (a .from + a .ticks) s (omega (arith, c .before .before .before .if2 .left)) (p .0) in
-    let e = stood (a .c) xs (a .from) (a .ticks) (a .trace .now) s st in
-    (ap (done (s .worst)) (c .count-up .ensures) ∙ e .0, p .2 (st .none) ∙ e .1)
+    let a = c .before .before .before .before .before .before .before .before .before .before .before .before .before .before .before .before .before .before .before .before .before .before .before .before .before .before .before .before .before .before .before .before .before .before .args in
+    let r = c .before .before .before .before .before .before .before .before .before .before .play .ensures in
+    let none : c .before .before .before .before .before .before .before .before .before .before .play .result .late ≡ a .c .n = omega (arith, r .0 .either, c .before .before .if2 .left) in
+    let st = r .0 .stands none in
+    let e = stood (a .c) (arrivalsOf (a .flat .now) (a .count)) (a .from) (a .ticks) (a .trace .now) _ _ _ _ st in
+    (ap (done _) (c .count-up .ensures) ∙ e .0, r .2 none ∙ e .1)
 
 pub run-ticks-spec : {M : Type 1} → statement M
 run-ticks-spec =
     tie.close
     (tie.spec
     mul-size
+    no-jobs-requires
+    no-dues-requires
+    no-threes-requires
+    no-lane-requires
+    slice-aggregate-wind
+    slice-aggregate-wind-2
+    slice-aggregate-wind-3
+    array-borrow-prefix-lane
+    slice-aggregate-wind-4
     wind-requires
     wipe-requires
     cast-refused
@@ -139,6 +164,11 @@ run-ticks-spec =
     refused-requires
     same-length
     returns
+    slice-aggregate-play
+    slice-aggregate-play-2
+    slice-aggregate-play-3
+    array-borrow-prefix-lane-2
+    slice-aggregate-play-4
     play-requires
     wipe-requires-2
     cast-refused-2
@@ -146,6 +176,7 @@ run-ticks-spec =
     refused-requires-2
     same-length-2
     returns-2
+    slice-aggregate-count-up
     count-up-requires
     same-length-3
     returns-3)
