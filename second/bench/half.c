@@ -41,6 +41,26 @@ kieferntuch_answer second_plan(const uint8_t *table, size_t table_length, size_t
 kieferntuch_ran second_run(const uint8_t *table, size_t table_length, const kieferntuch_arrival *arrivals,
                            size_t arrival_count, size_t from, size_t ticks, uint8_t *trace, size_t trace_length);
 
+/* The product's run. An answer of this size goes through memory that the caller has for it. The
+   product's module hands the place over as x86-64 does, as the first argument, also where it is
+   compiled for Arm; C for Arm would take a register of its own for it. */
+#ifdef __aarch64__
+kieferntuch_ran *run_to(kieferntuch_ran *answer, const uint8_t *table, size_t table_length,
+                        const kieferntuch_arrival *arrivals, size_t arrival_count, size_t from, size_t ticks,
+                        uint8_t *trace, size_t trace_length) __asm__("kieferntuch_run");
+
+static kieferntuch_ran product_run(const uint8_t *table, size_t table_length, const kieferntuch_arrival *arrivals,
+                                   size_t arrival_count, size_t from, size_t ticks, uint8_t *trace,
+                                   size_t trace_length)
+{
+    kieferntuch_ran answer;
+    run_to(&answer, table, table_length, arrivals, arrival_count, from, ticks, trace, trace_length);
+    return answer;
+}
+#else
+#define product_run kieferntuch_run
+#endif
+
 /* How the two were compiled; the build names it. */
 static const char how[] = HOW;
 
@@ -140,7 +160,7 @@ static kieferntuch_answer plan(side side, const call *call)
 static kieferntuch_ran run(side side, const call *call)
 {
     const lent *table = &call->table;
-    return (side == PRODUCT ? kieferntuch_run : second_run)(table->bytes, table->length, call->arrivals,
+    return (side == PRODUCT ? product_run : second_run)(table->bytes, table->length, call->arrivals,
                                                             call->arrival_count, work.from, work.ticks, work.out.bytes,
                                                             work.out.length);
 }
