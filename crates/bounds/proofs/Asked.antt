@@ -1,18 +1,28 @@
 -- Laws of the demand, once over the list of terms: it grows with the time, and by one term at a time.
 use Prim.Native.Nat.{ℕ, zero, suc, _+_, _-_, _*_, _/_, _≤_, _<_, zero-le}
-use mathlib.Core.Path.{_≡_}
+use mathlib.Core.Path.{_≡_, refl, _∙_, ap₂}
+use mathlib.Core.Bool.{Bool, true, false, cond}
 use mathlib.Core.List.{List, [], _∷_, _++_}
 use native.Mathlib.Omega.{arith}
 use native.Mathlib.Numerals.{add-one}
-use native.Mathlib.Nat.{div-zero, div-mul-le-self, le-div-iff-mul-le, div-lt-iff-lt-mul, mul-le-mul-left, mul-le-mul-right, le-trans, zero-lt-suc, add-le-add}
+use native.Mathlib.Nat.{div-zero, div-mul-le-self, le-div-iff-mul-le, div-lt-iff-lt-mul, mul-le-mul-left, mul-le-mul-right, le-trans, zero-lt-suc, add-le-add, suc-mul}
 use lib.ListN.{getD}
+use lib.Dec.{eqb}
 use Rattle.lists.specs.Tab.{tab}
+use Rattle.lists.specs.Total.{total}
 use Rattle.bounds.specs.Demand.{Term, ceil, demand}
-use Rattle.bounds.specs.Terms.{termAt, termsIn}
+use Rattle.bounds.specs.Terms.{termAt, termsOn, termsIn}
 
 div-mono : (p : ℕ) {a b : ℕ} → a ≤ b → a / p ≤ b / p
 div-mono zero {a} {b} h = rw (div-zero a, div-zero b) zero-le
 div-mono (suc p) {a} {b} h = le-div-iff-mul-le (zero-lt-suc p) .1 (le-trans (div-mul-le-self a (suc p)) h)
+
+-- as many periods as the quotient counts cover the time
+pub le-ceil : (t period c : ℕ) → 1 ≤ period → ceil t period ≤ c → t ≤ c * period
+unfolding ceil
+le-ceil t period c some h =
+    let k : t + (period - 1) < suc c * period = div-lt-iff-lt-mul some .0 (omega arith) in
+    omega (arith, suc-mul c period)
 
 -- a term whose length is at most its period asks for less than t and one period more
 pub share-le : (t period len : ℕ) → len ≤ period → ceil t period * len ≤ t + (period - 1)
@@ -48,3 +58,15 @@ demand-append (x ∷ xs) ys t = omega (arith, demand-append xs ys t)
 pub demand-more : (periods lens : List ℕ) (i t : ℕ) → demand (termsIn periods lens (i + 1)) t ≡ demand (termsIn periods lens i) t + ceil t (getD periods i 0) * getD lens i 0
 unfolding demand termsIn tab
 demand-more periods lens i t = rw (add-one, demand-append (tab i (termAt periods lens)) (termAt periods lens i ∷ []) t) (omega arith)
+
+-- the demand of the first k tasks on a processor, as a sum over the tasks
+pub demand-on : (periods lens homes : List ℕ) (p k t : ℕ) → demand (termsOn periods lens homes p k) t ≡ total k (λ i. cond (eqb (getD homes i 0) p) (ceil t (getD periods i 0) * getD lens i 0) 0)
+unfolding termsOn total demand
+demand-on periods lens homes p zero t = refl
+demand-on periods lens homes p (suc k) t =
+    demand-append (termsOn periods lens homes p k) _ t
+    ∙ ap₂ (λ (a b : ℕ). a + b) (demand-on periods lens homes p k t) (last (eqb (getD homes k 0) p))
+  where
+    last : (b : Bool) → demand (cond b (termAt periods lens k ∷ []) []) t ≡ cond b (ceil t (getD periods k 0) * getD lens k 0) 0
+    last true = omega arith
+    last false = refl

@@ -43,7 +43,8 @@ use Rattle.picks.specs.Best.{beat, best, every}
 use Rattle.picks.specs.Pick.{sectionOn, stageOn, chosen, waits, holds, ready, firstOn, lastOn, stageFor, clear, pick}
 use Rattle.machine.specs.Chart.{threes, topsOf, chartOf}
 use Rattle.machine.specs.Tick.{serveAt, kindOf, byteOf, notedAt, noted, notedTo, releases, lateRow, picked, units, bytes, worse, step, jobsAt, releasedAt, bytesAt, worstAt, lateAt}
-use Rattle.machine.specs.Counts.{total, tallyOf}
+use Rattle.lists.specs.Total.{total}
+use Rattle.machine.specs.Counts.{tallyOf}
 use Rattle.run.specs.declared.Ran.{Ran}
 use Rattle.run.specs.Run.{log, steppedOf, shownOf}
 use Rattle.run.specs.Answer.{callNumber, callNames, callAnswer, tableAnswer, runAnswer, traceAfter}

@@ -3,3 +3,4 @@ pub mod First
 pub mod Count
 pub mod Sets
 pub mod Largest
+pub mod Total

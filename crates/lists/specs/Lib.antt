@@ -2,3 +2,4 @@ pub mod Tab
 pub mod First
 pub mod Count
 pub mod Largest
+pub mod Total

@@ -12,7 +12,7 @@ use Rattle.lists.proofs.Tab.{length-tab}
 use Rattle.chain.specs.declared.Job.{Job}
 use Rattle.chain.specs.Job.{jobAt}
 use Rattle.machine.specs.Tick.{kindOf, byteOf}
-use Rattle.machine.specs.Counts.{total}
+use Rattle.lists.specs.Total.{total}
 
 -- one job more is counted
 pub total-more : (g : Job → ℕ) (js : List Job) (i a : ℕ) → a ≡ total i (λ k. g (jobAt js k)) → a + g (jobAt js i) ≡ total (i + 1) (λ k. g (jobAt js k))

@@ -19,9 +19,10 @@ use Rattle.arrivals.specs.Seek.{GoodArrivals}
 use Rattle.arrivals.proofs.Seeking.{brings-fits}
 use Rattle.machine.specs.Chart.{Chart}
 use Rattle.machine.specs.Tick.{Arrivals, serve, lateRow, picked, step, jobsAt, releasedAt, lateAt}
-use Rattle.machine.specs.Counts.{total, tallyOf}
+use Rattle.lists.specs.Total.{total}
+use Rattle.machine.specs.Counts.{tallyOf}
 use Rattle.machine.proofs.Keep.{releases-at, units-at}
-use Rattle.machine.proofs.Sums.{total-ext, total-add}
+use Rattle.lists.proofs.Total.{total-ext, total-add}
 use Rattle.machine.proofs.Rows.{Sound, Fits, sound-none, work, sound-released, released-count, sound-serve, serve-count}
 
 module _ (c : Chart) (ar : Arrivals) (t i : ℕ) (l : i < c .n) where

@@ -1,15 +1,11 @@
 -- What a run counts: "jobs ended, units run, and units owed".
-use Prim.Native.Nat.{ℕ, zero, suc, _+_}
+use Prim.Native.Nat.{ℕ}
 use mathlib.Core.List.{List}
+use Rattle.lists.specs.Total.{total}
 use Rattle.chain.specs.declared.Job.{Job}
 use Rattle.chain.specs.Job.{jobAt}
 use Rattle.chain.specs.Owed.{owes}
 pub use Rattle.machine.specs.declared.Tally.{Tally}
-
--- the sum of f over the first n numbers
-unfoldable pub total : ℕ → (ℕ → ℕ) → ℕ
-total zero f = 0
-total (suc n) f = total n f + f n
 
 unfoldable pub tallyOf : ℕ → List Job → Tally
 tallyOf n js =

@@ -128,6 +128,16 @@ unfolding every
 every-all test zero h = refl
 every-all test (suc n) h = rw (h n (omega arith)) (every-all test n (λ i l. h i (omega arith)))
 
+-- where not every row passes, one fails
+pub every-not : (test : ℕ → Bool) (n : ℕ) → every n test ≡ false → (i : ℕ) × (i < n) × (test i ≡ false)
+unfolding every
+every-not test zero h = absurd (not-both refl h)
+every-not test (suc n) h = go (test n) refl h (every-not test n)
+  where
+    go : (b : Bool) → test n ≡ b → (b && every n test) ≡ false → (every n test ≡ false → (i : ℕ) × (i < n) × (test i ≡ false)) → (i : ℕ) × (i < suc n) × (test i ≡ false)
+    go true e k rest = let (i, l, f) = rest k in (i, omega arith, f)
+    go false e k rest = (n, omega arith, e)
+
 pub every-same : (s t : ℕ → Bool) (n : ℕ) → ((i : ℕ) → i < n → s i ≡ t i) → every n s ≡ every n t
 unfolding every
 every-same s t zero h = refl

@@ -4,7 +4,7 @@ use mathlib.Core.Path.{_≡_, refl}
 use mathlib.Core.List.{List, [], _∷_, _++_}
 use native.Mathlib.Omega.{arith}
 use Rattle.lists.specs.Tab.{tab, joined}
-use Rattle.machine.specs.Counts.{total}
+use Rattle.lists.specs.Total.{total}
 use Rattle.run.specs.Brought.{busy}
 
 pub busy-one : (b : ℕ) → 1 ≤ b → busy (b ∷ []) ≡ 1

@@ -20,8 +20,9 @@ use Rattle.arrivals.proofs.Good.{rises}
 use Rattle.arrivals.proofs.Seeking.{is-of}
 use Rattle.machine.specs.declared.Chart.{Chart}
 use Rattle.machine.specs.Tick.{jobsAt}
-use Rattle.machine.specs.Counts.{total, tallyOf}
-use Rattle.machine.proofs.Sums.{total-ext, total-zero, total-one, total-swap}
+use Rattle.lists.specs.Total.{total}
+use Rattle.machine.specs.Counts.{tallyOf}
+use Rattle.lists.proofs.Total.{total-ext, total-zero, total-one, total-swap}
 use Rattle.machine.proofs.Rows.{work}
 use Rattle.machine.proofs.Ticks.{rows-count}
 use Rattle.run.specs.Run.{isLate}

@@ -26,8 +26,9 @@ use Rattle.arrivals.specs.Arrival.{brings}
 use Rattle.arrivals.specs.Seek.{GoodArrivals}
 use Rattle.machine.specs.declared.Chart.{Chart}
 use Rattle.machine.specs.Tick.{serveAt, serve, kindOf, byteOf, picked, bytes, jobsAt, releasedAt, bytesAt}
-use Rattle.machine.specs.Counts.{total, tallyOf}
-use Rattle.machine.proofs.Sums.{total-ext, total-zero, total-add, total-one, total-swap}
+use Rattle.lists.specs.Total.{total}
+use Rattle.machine.specs.Counts.{tallyOf}
+use Rattle.lists.proofs.Total.{total-ext, total-zero, total-add, total-one, total-swap}
 use Rattle.machine.proofs.Rows.{Sound}
 use Rattle.machine.proofs.Ticks.{released-at, served-at, sound-mid}
 use Rattle.run.specs.Run.{log}

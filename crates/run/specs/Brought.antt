@@ -6,7 +6,7 @@ use lib.ListN.{length}
 use lib.Dec.{ltb}
 use Rattle.arrivals.specs.declared.Arrival.{Arrival}
 use Rattle.arrivals.specs.Arrival.{arrivalAt}
-use Rattle.machine.specs.Counts.{total}
+use Rattle.lists.specs.Total.{total}
 
 -- the three lengths of an arrival
 abbrev pub lengths : Arrival → ℕ

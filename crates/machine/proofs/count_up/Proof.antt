@@ -6,7 +6,8 @@ use Rattle.chain.specs.Job.{jobAt}
 use Rattle.chain.specs.Owed.{owes}
 use Rattle.jobs.specs.Numbers.{jobsIn}
 use Rattle.jobs.proofs.Laws.{jobs-at}
-use Rattle.machine.specs.Counts.{tallyOf, total}
+use Rattle.lists.specs.Total.{total}
+use Rattle.machine.specs.Counts.{tallyOf}
 use Rattle.machine.proofs.Served.{total-more}
 use Rattle.machine.proofs.count_up.Statement.{statement}
 use Rattle.machine.proofs.count_up.Tie as tie

@@ -1,0 +1,3 @@
+pub mod Window
+pub mod Releases
+pub mod Level
