@@ -2,7 +2,7 @@
 -- `left` is what was released before a tick and is left of it, `new` what is released in the tick, `ran` the units that run of it, and
 -- `others` the units of work that is not of the level. All that is known is known below a horizon n.
 use Prim.Native.Nat.{ℕ, zero, suc, _+_, _≤_, _<_}
-use mathlib.Core.Path.{_≡_, refl}
+use mathlib.Core.Path.{_≡_}
 use native.Mathlib.Nat.{add-suc, add-zero}
 use native.Mathlib.Decide.{decLe, ℕ-discrete}
 use native.Mathlib.Omega.{arith}
@@ -23,12 +23,12 @@ pub record Level (n : ℕ) : Type 1 where
   pub flow : (t : ℕ) → t < n → left (suc t) + ran t ≡ left t + new t
   -- where the level has work, a unit runs
   pub works : (t : ℕ) → t < n → 1 ≤ left t + new t → 1 ≤ ran t + others t
-  pub blocked : (r d : ℕ) (o : Own r d) (t0 m : ℕ) → t0 + m ≤ n → left t0 ≡ 0 → ((j : ℕ) → j < m → 1 ≤ left (t0 + j) + new (t0 + j)) → window others t0 m ≤ blocking r d o
+  pub blocked : (r d : ℕ) (o : Own r d) (t0 m : ℕ) → t0 + m ≤ n → ((j : ℕ) → j < m → 1 ≤ left (t0 + j) + new (t0 + j)) → window others t0 m ≤ blocking r d o
   pub long : (r d : ℕ) → Own r d → 1 ≤ d
   pub some : (r d : ℕ) → Own r d → 1 ≤ new r
   pub apart : (r d r′ d′ : ℕ) → Own r d → Own r′ d′ → r < r′ → r + d ≤ r′
   -- the bound covers what is released in a window with one own release, and the blocking
-  pub covers : (r d : ℕ) (o : Own r d) (t0 : ℕ) → t0 ≤ r → ((t d′ : ℕ) → t0 ≤ t → t < t0 + d → Own t d′ → t ≡ r) → window new t0 d + blocking r d o ≤ d
+  pub covers : (r d : ℕ) (o : Own r d) (t0 : ℕ) → ((t d′ : ℕ) → t0 ≤ t → t < t0 + d → Own t d′ → t ≡ r) → window new t0 d + blocking r d o ≤ d
 
 module _ {n : ℕ} (v : Level n) where
   -- what is left and what ran is what was left and what was released
@@ -78,8 +78,8 @@ module _ {n : ℕ} (v : Level n) where
           let st = stirs nv in
           let units = total-ones d (λ j. v .ran (z .at + j) + v .others (z .at + j)) (λ j hj. v .works (z .at + j) (omega arith) (st j hj)) in
           let both = total-add d (λ j. v .ran (z .at + j)) (λ j. v .others (z .at + j)) in
-          let few = v .blocked r d o (z .at) d (omega arith) (z .here) st in
-          let all = v .covers r d o (z .at) low alone in
+          let few = v .blocked r d o (z .at) d (omega arith) st in
+          let all = v .covers r d o (z .at) alone in
           let none : v .left (z .at + d) ≡ 0 = omega (arith, balance (z .at) d (omega arith), z .here) in
           end (decLe (z .at + d) r) none
         where

@@ -29,11 +29,11 @@ ended-moved x p = go (isIdle p)
     go true = omega arith
     go false = omega arith
 
--- the mark of a tick is the largest so far
-mark-le : (t b : ℕ) → b ≤ t → mark t b ≤ suc t
+-- the mark of a part that has run in tick t is not past the tick
+pub mark-le : (t b : ℕ) → b ≤ suc t → mark t b ≤ suc t
 unfolding mark
 mark-le t zero h = omega arith
-mark-le t (suc b) h = omega arith
+mark-le t (suc b) h = h
 
 module _ (bounds : List ℕ) (i t : ℕ) where
   part-enter : (a n j : ℕ) (ls : List ℕ) → n + j ≤ 3 → partOf (enter bounds i a ls t n j) < 3
@@ -123,7 +123,7 @@ module _ (bounds : List ℕ) (i t : ℕ) where
 
     pub begun-unit : x .begun ≤ t → unitOf bounds i t x j l .begun ≤ suc t
     unfolding moved
-    begun-unit h = unit-cases bounds i t (λ y. y .begun ≤ suc t) x j l (λ m. mark-le t (x .begun) h) (λ m. omega arith)
+    begun-unit h = unit-cases bounds i t (λ y. y .begun ≤ suc t) x j l (λ m. mark-le t (x .begun) (omega arith)) (λ m. omega arith)
 
     pub left-unit : HasLeft (unitOf bounds i t x j l .place)
     unfolding moved

@@ -6,3 +6,4 @@ pub mod Keeps
 pub mod Counts
 pub mod Before
 pub mod Pushed
+pub mod Row

@@ -1,5 +1,5 @@
 -- Laws of stores and of what stands behind a place.
-use Prim.Native.Nat.{ℕ, suc, _+_, _-_, _<_, _≤_}
+use Prim.Native.Nat.{ℕ, zero, suc, _+_, _-_, _<_, _≤_}
 use mathlib.Core.Path.{_≡_, sym, _∙_, ap}
 use mathlib.Core.List.{List, [], _∷_, _++_, append-assoc}
 use native.Mathlib.Omega.{arith}
@@ -51,3 +51,11 @@ module _ {A : Type 0} where
       let k : 0 + length u ≤ length (drop at l) = omega (arith, length-drop at l) in
       let e : at + (0 + length u) ≡ at + length u = omega arith in
       rw (sets-eq u (drop at l) 0 k, sets-eq u l at h, drop-drop (0 + length u) at l, e, append-assoc)
+
+-- numbers that are each within their bound stay so where what is set in a place is within its own
+pub set-within : (l : List ℕ) (b : ℕ → ℕ) (k v : ℕ) → ((m : ℕ) → getD l m 0 ≤ b m) → v ≤ b k → (m : ℕ) → getD (set l k v) m 0 ≤ b m
+set-within [] b k v h le m = h m
+set-within (x ∷ xs) b zero v h le zero = le
+set-within (x ∷ xs) b zero v h le (suc m) = h (suc m)
+set-within (x ∷ xs) b (suc k) v h le zero = h 0
+set-within (x ∷ xs) b (suc k) v h le (suc m) = set-within xs (λ n. b (suc n)) k v (λ n. h (suc n)) le m

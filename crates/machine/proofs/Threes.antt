@@ -73,6 +73,13 @@ module _ (xs ys zs : List ℕ) where
     pub threes-third : (i : ℕ) → i < n → getD (threes xs ys zs n) (3 * i + 2) 0 ≡ getD zs i 0
     threes-third i h = getD-threes i 2 h (omega arith)
 
+    -- what is known of the three at row i is known at each of its places
+    pub threes-at : (f : ℕ → ℕ) (i : ℕ) → i < n → getD xs i 0 ≡ f 0 → getD ys i 0 ≡ f 1 → getD zs i 0 ≡ f 2 → (j : ℕ) → j < 3 → getD (threes xs ys zs n) (3 * i + j) 0 ≡ f j
+    threes-at f i h x y z zero l = threes-first i h ∙ x
+    threes-at f i h x y z (suc zero) l = threes-second i h ∙ y
+    threes-at f i h x y z (suc (suc zero)) l = threes-third i h ∙ z
+    threes-at f i h x y z (suc (suc (suc j))) l = absurd (omega arith)
+
     -- behind the rows there is nothing
     pub threes-rest : (k : ℕ) → 3 * n ≤ k → getD (threes xs ys zs n) k 0 ≡ 0
     threes-rest k h =

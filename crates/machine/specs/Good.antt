@@ -1,5 +1,5 @@
 -- What the machine's numbers keep to.
-use Prim.Native.Nat.{ℕ, suc, _+_, _*_, _≤_, _<_}
+use Prim.Native.Nat.{ℕ, _+_, _*_, _≤_, _<_}
 use mathlib.Core.Path.{_≡_}
 use mathlib.Core.List.{List}
 use lib.ListN.{getD, length}
@@ -10,7 +10,6 @@ use Rattle.chain.specs.Good.{GoodBounds, GoodJob, Small}
 use Rattle.jobs.specs.Numbers.{jobIn, jobsIn}
 use Rattle.picks.specs.Good.{GoodHomes}
 use Rattle.arrivals.specs.declared.Arrival.{Arrival}
-use Rattle.arrivals.specs.Arrival.{brings}
 use Rattle.arrivals.specs.Seek.{GoodArrivals, Seek}
 use Rattle.machine.specs.Chart.{Chart}
 

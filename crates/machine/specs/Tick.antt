@@ -1,7 +1,7 @@
 -- The machine: "In each tick: due releases of jobs already there, then arrivals, then releases that an arrival makes due at once;
 -- then each processor runs one unit."
-use Prim.Native.Nat.{ℕ, zero, suc, _+_, _-_, _*_, max}
-use mathlib.Core.Bool.{Bool, cond}
+use Prim.Native.Nat.{ℕ, zero, suc, _+_, _*_, max}
+use mathlib.Core.Bool.{cond}
 use mathlib.Core.List.{List}
 use mathlib.Core.Option.{Option}
 use lib.ListN.{getD, set}

@@ -110,7 +110,7 @@ module _ (homes ranks tops : List ℕ) (n : ℕ) (js : List Job) (q : ℕ) where
       go i l true e = lt-ltb _ _ (h i l e)
       go i l false e = refl
 
-  clear-told : (x : ℕ) → clear homes ranks tops n js q (suc x) ≡ true → Clear x
+  pub clear-told : (x : ℕ) → clear homes ranks tops n js q (suc x) ≡ true → Clear x
   unfolding clear
   clear-told x h i l e = ltb-true _ _ (rw e at (every-at _ n h i l))
 

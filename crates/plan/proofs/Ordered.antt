@@ -1,6 +1,6 @@
 -- The tasks of a good table in rank order are good.
 use Prim.Native.Nat.{ℕ, _+_, _≤_, _<_}
-use mathlib.Core.Path.{_≡_}
+use mathlib.Core.Path.{_≡_, _∙_, ap}
 use mathlib.Core.List.{List}
 use native.Mathlib.Omega.{arith}
 use lib.ListN.{getD}
@@ -22,6 +22,19 @@ module _ (t : Table) (g : GoodTable t) where
   -- task k is the row of rank k
   pub ordered : (column : List ℕ) (k : ℕ) → k < t .n → getD (inRank (t .rank) (t .n) column) k 0 ≡ getD column (rowOf (t .rank) (t .n) k) 0
   ordered column k l = getD-inRank (t .rank) (t .n) column k l
+
+  -- what the resource of task k has, and C1 + C2 of task k
+  pub of-resource : (values : List ℕ) (k : ℕ) → k < t .n
+      → getD (ofResource values (inRank (t .rank) (t .n) (t .resource)) (t .n)) k 0 ≡ getD values (getD (t .resource) (rowOf (t .rank) (t .n) k) 0) 0
+  of-resource values k l =
+      getD-filled 64 0 (λ j. getD values (getD (inRank (t .rank) (t .n) (t .resource)) j 0) 0) (t .n) k 0 l
+      ∙ ap (λ (r : ℕ). getD values r 0) (ordered (t .resource) k l)
+
+  pub works-of : (k : ℕ) → k < t .n
+      → getD (worksOf (inRank (t .rank) (t .n) (t .c1)) (inRank (t .rank) (t .n) (t .c2)) (t .n)) k 0 ≡ getD (t .c1) (rowOf (t .rank) (t .n) k) 0 + getD (t .c2) (rowOf (t .rank) (t .n) k) 0
+  works-of k l =
+      let e = getD-filled 64 0 (λ j. getD (inRank (t .rank) (t .n) (t .c1)) j 0 + getD (inRank (t .rank) (t .n) (t .c2)) j 0) (t .n) k 0 l in
+      omega (arith, ordered (t .c1) k l, ordered (t .c2) k l)
 
   pub good-rows : GoodRows (t .period) (t .a) (t .n)
   good-rows k l =

@@ -1,14 +1,15 @@
 -- A plan gives every part that can run a processor of its own.
 use Prim.Native.Nat.{ℕ, _≤_, _<_}
-use mathlib.Core.Path.{_≡_, refl, sym, _∙_}
+use mathlib.Core.Path.{_≡_, refl}
 use mathlib.Core.Bool.{true}
 use native.Mathlib.Omega.{arith}
-use borrow.Author.Tests.{ltb-true, lt-ltb, eq-eqb}
+use borrow.Author.Tests.{lt-ltb, eq-eqb}
 use lib.ListN.{getD}
 use Rattle.lists.proofs.Tab.{getD-filled}
 use Rattle.rank.specs.Ceiling.{uses}
 use Rattle.table.specs.declared.Table.{Table}
 use Rattle.table.specs.Good.{GoodTable}
+use Rattle.table.proofs.Good.{names-resource}
 use Rattle.plan.specs.declared.Plan.{Plan}
 use Rattle.plan.specs.declared.Outcome.the-variants.{Planned}
 use Rattle.plan.specs.Planning.{plannedOf}
@@ -25,7 +26,7 @@ module _ (t : Table) (g : GoodTable t) (e : plannedOf t .outcome ≡ Planned) wh
   locked : (i : ℕ) → i < t .n → 1 ≤ getD (t .a) i 0 → (1 ≤ getD (locksOf t p) i 0) × (getD (locksOf t p) i 0 ≤ p .s)
   locked i l h =
       let r : ℕ = getD (t .resource) i 0 in
-      let named : 1 ≤ r = ltb-true 0 r (sym (g .tasks i l .agree) ∙ lt-ltb 0 (getD (t .a) i 0) h) in
+      let named : 1 ≤ r = names-resource t g i l h in
       let used : uses r r ≡ true = rw (lt-ltb 0 r named, eq-eqb r r refl) in
       rw (getD-filled 64 0 (λ k. getD (p .serves) (getD (t .resource) k 0) 0) (t .n) i 0 l) (plan-served t g e r named (g .tasks i l .resource) .on (i, l, used))
 

@@ -1,10 +1,10 @@
 -- A table that is read without refusal is good: every row keeps to the paper's limits.
 use Prim.Native.Nat.{ℕ, _+_, _≤_, _<_}
-use mathlib.Core.Path.{_≡_, refl, ap}
+use mathlib.Core.Path.{_≡_, refl, sym, _∙_, ap}
 use mathlib.Core.List.{List}
 use mathlib.Core.Bool.{Bool, true, false, cond}
 use native.Mathlib.Omega.{arith}
-use borrow.Author.Tests.{ltb-true, ltb-false}
+use borrow.Author.Tests.{ltb-true, ltb-false, lt-ltb}
 use lib.ListN.{getD}
 use lib.Dec.{ltb, eqb}
 use Rattle.lists.proofs.Tab.{getD-filled}
@@ -13,6 +13,7 @@ use Rattle.table.specs.Row.{taskOf, spareOf, judged, rowOf, numberOf}
 use Rattle.table.specs.Table.{taskCount, processorCount, protocolBit, headerNumber, rowBytes, rowNumber, firstBad, column, ranked, tableOf, refusal, accepted, rowsReading, readingOf}
 use Rattle.table.specs.Good.{GoodHeader, GoodTask, taskAt, GoodTable}
 use Rattle.table.specs.declared.Task.{Task}
+use Rattle.table.specs.declared.Table.{Table}
 use Rattle.table.specs.declared.Reading.{Reading}
 use Rattle.table.specs.declared.RowRead.{RowRead}
 use Rattle.table.specs.declared.RowRead.the-variants.{Good, BadPeriod, BadResource, Disagree, BadSum}
@@ -76,6 +77,10 @@ table-good bs r q z = go (ltb 0 (headerNumber bs)) refl q
     go false e q =
         let g = header-good bs (omega (arith, ltb-false 0 (headerNumber bs) e)) in
         rows-table bs (processorCount bs) (eqb (protocolBit bs) 1) g (g .processors) (ltb (firstBad bs (taskCount bs)) (taskCount bs)) refl r q z
+
+-- "A is above 0 exactly when a resource is named": a row with a section names one
+pub names-resource : (t : Table) → GoodTable t → (i : ℕ) → i < t .n → 1 ≤ getD (t .a) i 0 → 1 ≤ getD (t .resource) i 0
+names-resource t g i l h = ltb-true 0 (getD (t .resource) i 0) (sym (g .tasks i l .agree) ∙ lt-ltb 0 (getD (t .a) i 0) h)
 
 row-number-le : (r : RowRead) → numberOf r ≤ 9
 unfolding numberOf

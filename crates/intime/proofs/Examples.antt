@@ -1,0 +1,125 @@
+-- Two runs of case P under the theorem: one in which a section waits behind a lower-ranked one and ends, and one in which a bound is met exactly.
+use Prim.Native.Nat.{ℕ, _+_}
+use mathlib.Core.Path.{_≡_, refl, subst}
+use mathlib.Core.Bool.{xor}
+use mathlib.Core.List.{List, [], _∷_}
+use native.Mathlib.Omega.{arith}
+use lib.ListN.{getD}
+use Rattle.bits.specs.Bits.{bitsValue}
+use Rattle.lists.specs.Tab.{tab, blank, filled, joined}
+use Rattle.lists.specs.First.{first}
+use Rattle.lists.specs.Count.{count}
+use Rattle.lists.specs.Largest.{largest}
+use Rattle.rank.specs.Rank.{rankOf, ranksOf}
+use Rattle.rank.specs.Ceiling.{ceilingOf, ceilingsOf}
+use Rattle.rank.specs.Order.{inRank, inRows, numbersTo}
+use Rattle.table.specs.declared.Table.{Table}
+use Rattle.table.specs.Row.{outside, judged, rowOf, numberOf as rowNumberOf}
+use Rattle.table.specs.Table.{headerNumber, rowNumber, firstBad, column, ranked, tableOf, rowsReading, readingOf}
+use Rattle.table.proofs.Good.{table-good}
+use Rattle.bounds.specs.Demand.{ceil, demand}
+use Rattle.bounds.specs.Terms.{termsOn}
+use Rattle.bounds.specs.Bound.{least, boundOf as leastOf}
+use Rattle.sections.specs.Blocking.{mayBlock, blockingOf}
+use Rattle.sections.specs.Section.{sectionBound, firstMissing, sectionsOf}
+use Rattle.stages.specs.Fit.{fitOf, fitAmong, placeWith, placeAmong}
+use Rattle.stages.specs.Stage.{fitOn, placed, placeOf, firstNowhere, stagesTo, stagesOf}
+use Rattle.spread.specs.Weight.{weightOf, weightsOf, usedOf, lacksOf, heaviestOf}
+use Rattle.spread.specs.Spread.{lightestOf, loadsOf, servesOf}
+use Rattle.plan.specs.declared.Plan.{Plan}
+use Rattle.plan.specs.declared.Outcome.the-variants.{Planned}
+use Rattle.plan.specs.Tasks.{weighed, tasksOf}
+use Rattle.plan.specs.Trial.{numberOf, planBy, serves, homes, sections, stages, trialOf}
+use Rattle.plan.specs.Planning.{failures, planningOf, plannedOf}
+use Rattle.arrivals.specs.declared.Arrival.{Arrival}
+use Rattle.arrivals.specs.Arrival.{isOf, brings}
+use Rattle.arrivals.specs.Check.{disordered, lastOf, numberAt, firstBad as firstBadArrival, heardOf}
+use Rattle.chain.specs.declared.Place.{Place}
+use Rattle.chain.specs.declared.Place.the-variants.{Running}
+use Rattle.chain.specs.Job.{isIdle, moved}
+use Rattle.chain.specs.Release.{off, starts, enter, wakeAt, admit}
+use Rattle.chain.specs.Unit.{mark, next, unitOf}
+use Rattle.picks.specs.Best.{beat, best, every}
+use Rattle.picks.specs.Pick.{sectionOn, stageOn, chosen, waits, holds, ready, firstOn, lastOn, stageFor, clear, pick}
+use Rattle.machine.specs.Chart.{threes, topsOf, chartOf}
+use Rattle.machine.specs.Tick.{Arrivals, serveAt, releases, picked, units, step, jobsAt, releasedAt}
+use Rattle.run.specs.Answer.{heard}
+use Rattle.intime.specs.Parts.{boundOf, releaseOf}
+use Rattle.intime.specs.Demand3.{InTime, Ends, after, released, machine}
+use Rattle.intime.proofs.Planned.{list-valid}
+use Rattle.intime.proofs.Theorem.{demand-3}
+
+-- case P under PCP, in hex
+abbrev bytesP : List ℕ
+bytesP =
+    0x06 ∷ 0x30
+    ∷ 0x00 ∷ 0x00 ∷ 0xA0 ∷ 0x00 ∷ 0x01 ∷ 0x00 ∷ 0x00 ∷ 0x20 ∷ 0x00 ∷ 0x01 ∷ 0x08
+    ∷ 0x00 ∷ 0x01 ∷ 0x40 ∷ 0x00 ∷ 0x02 ∷ 0x00 ∷ 0x00 ∷ 0x30 ∷ 0x00 ∷ 0x02 ∷ 0x08
+    ∷ 0x00 ∷ 0x02 ∷ 0x80 ∷ 0x00 ∷ 0x04 ∷ 0x00 ∷ 0x00 ∷ 0x50 ∷ 0x00 ∷ 0x04 ∷ 0x10
+    ∷ []
+
+abbrev P : Table
+P = readingOf bytesP .table
+
+abbrev planP : Plan
+planP = plannedOf P .plan
+
+-- row 2 at tick 0, and row 1 at a tick, each with the table's lengths
+abbrev two : ℕ → List Arrival
+two tick = record { tick = 0; row = 2; len1 = 2; len2 = 3; len3 = 2 } ∷ record { tick = tick; row = 1; len1 = 1; len2 = 2; len3 = 1 } ∷ []
+
+-- processor 1 in tick n: the row that it runs, numbered from 1
+abbrev lane1 : Arrivals → ℕ → ℕ
+lane1 ar n = getD (picked (machine P planP ar) (releasedAt (machine P planP ar) ar n)) 1 0
+
+-- row i in tick n: where its job is once the releases are in, and since when it is begun
+abbrev row : Arrivals → ℕ → ℕ → Place × ℕ
+row ar i n = (released P planP ar n i .place, released P planP ar n i .begun)
+
+-- what the definitions compute for row 1 at tick 4, and at tick 3
+record Computed : Type 0 where
+  read : readingOf bytesP .number ≡ 0
+  planned : plannedOf P .outcome ≡ Planned
+  heard4 : heard P (two 4) .number ≡ 0
+  heard3 : heard P (two 3) .number ≡ 0
+  row1 : (P .n ≡ 3) × (getD (P .rank) 0 0 ≡ 0) × (releaseOf planP 0 4 1 ≡ 5) × (boundOf planP 0 1 ≡ 5)
+  row2 : (getD (P .rank) 1 0 ≡ 1) × (releaseOf planP 1 0 1 ≡ 4) × (boundOf planP 1 1 ≡ 5)
+  waits : (row (brings (two 4)) 0 5 ≡ (Running 1 2, 0)) × (row (brings (two 4)) 1 5 ≡ (Running 1 2, 5))
+  lanes : (lane1 (brings (two 4)) 5 ≡ 2) × (lane1 (brings (two 4)) 6 ≡ 2) × (lane1 (brings (two 4)) 7 ≡ 1) × (lane1 (brings (two 4)) 8 ≡ 1)
+  ends4 : Ends P planP (brings (two 4)) 0 4 1 (1 ∷ 2 ∷ 1 ∷ []) 9
+  ends3 : Ends P planP (brings (two 3)) 1 0 1 (2 ∷ 3 ∷ 2 ∷ []) 9
+
+computed : Computed
+unfolding bitsValue tab blank filled joined first count largest rankOf ranksOf ceilingOf ceilingsOf inRank inRows numbersTo xor outside judged rowOf rowNumberOf headerNumber rowNumber firstBad column ranked tableOf rowsReading readingOf ceil demand termsOn least leastOf mayBlock blockingOf sectionBound firstMissing sectionsOf fitOf fitAmong placeWith placeAmong fitOn placed placeOf firstNowhere stagesTo stagesOf weightOf weightsOf usedOf lacksOf heaviestOf lightestOf loadsOf servesOf weighed tasksOf numberOf planBy serves homes sections stages trialOf failures planningOf plannedOf isOf brings disordered lastOf numberAt firstBadArrival heardOf isIdle moved off starts enter wakeAt admit mark next unitOf beat best every sectionOn stageOn chosen waits holds ready firstOn lastOn stageFor clear pick threes topsOf chartOf serveAt releases picked units step jobsAt releasedAt boundOf releaseOf
+computed =
+    record {
+      read = refl;
+      planned = refl;
+      heard4 = refl;
+      heard3 = refl;
+      row1 = (refl, refl, refl, refl);
+      row2 = (refl, refl, refl);
+      waits = (refl, refl);
+      lanes = (refl, refl, refl, refl);
+      ends4 = after 8 refl refl refl refl;
+      ends3 = after 8 refl refl refl refl;
+    }
+
+-- the theorem speaks of both
+under : (tick : ℕ) → heard P (two tick) .number ≡ 0 → InTime P planP (brings (two tick))
+under tick good =
+    demand-3 bytesP (computed .read) (computed .planned) (brings (two tick))
+    (list-valid P (table-good bytesP (readingOf bytesP) refl (computed .read)) (two tick) good)
+
+-- Row 1's section, released at 5, waits while the lower-ranked row 2 is at its section, begun in tick 4; it runs in ticks 7 and 8 and ends
+-- at 9, within its bound of 5.
+pub waited : InTime P planP (brings (two 4))
+    × (row (brings (two 4)) 0 5 ≡ (Running 1 2, 0)) × (row (brings (two 4)) 1 5 ≡ (Running 1 2, 5))
+    × ((lane1 (brings (two 4)) 5 ≡ 2) × (lane1 (brings (two 4)) 6 ≡ 2) × (lane1 (brings (two 4)) 7 ≡ 1) × (lane1 (brings (two 4)) 8 ≡ 1))
+    × Ends P planP (brings (two 4)) 0 4 1 (1 ∷ 2 ∷ 1 ∷ []) 9
+waited = (under 4 (computed .heard4), computed .waits .0, computed .waits .1, computed .lanes, computed .ends4)
+
+-- Row 2's section, released at 4 together with row 1's, ends at 9: exactly its bound of 5 later.
+pub exact : InTime P planP (brings (two 3)) × Ends P planP (brings (two 3)) 1 0 1 (2 ∷ 3 ∷ 2 ∷ []) (releaseOf planP 1 0 1 + boundOf planP 1 1)
+exact =
+    (under 3 (computed .heard3), subst (Ends P planP (brings (two 3)) 1 0 1 (2 ∷ 3 ∷ 2 ∷ [])) (omega (arith, computed .row2 .1, computed .row2 .2)) (computed .ends3))

@@ -1,0 +1,13 @@
+pub mod Releases
+pub mod System
+pub mod Ticks
+pub mod Sums
+pub mod Levels
+pub mod Blockers
+pub mod Induction
+pub mod Ending
+pub mod Charted
+pub mod Planned
+pub mod Theorem
+pub mod Calls
+pub mod Examples

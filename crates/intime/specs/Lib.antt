@@ -1,0 +1,4 @@
+pub mod Parts
+pub mod Stands
+pub mod Valid
+pub mod Demand3
