@@ -26,8 +26,7 @@ use Rattle.run.specs.declared.Ran.{Ran}
 use Rattle.run.specs.Run.{refused, isLate, lateTick, steppedOf}
 use Rattle.run.specs.Answer.{badWindow, heard, callNumber, callAnswer, tableAnswer, runAnswer}
 use Rattle.run.proofs.Calls.{allowed}
-use Rattle.intime.specs.Parts.{boundOf}
-use Rattle.intime.specs.Demand3.{Responses, Never19}
+use Rattle.intime.specs.Demand3.{boundOf, Responses, Never19}
 use Rattle.intime.proofs.Planned.{list-valid}
 use Rattle.intime.proofs.Theorem.{demand-3}
 

@@ -34,9 +34,8 @@ use Rattle.picks.specs.Pick.{isSection, home}
 use Rattle.machine.specs.Chart.{locksOf, topsOf, chartOf}
 use Rattle.machine.specs.Tick.{Arrivals}
 use Rattle.machine.proofs.Threes.{threes-at}
-use Rattle.intime.specs.Parts.{lenOf, boundOf, releaseOf}
+use Rattle.intime.specs.Demand3.{lenOf, boundOf, releaseOf, Valid}
 use Rattle.intime.specs.Stands.{Covers, Stands}
-use Rattle.intime.specs.Valid.{Valid}
 use Rattle.intime.proofs.System.{System, sum, on}
 
 -- of row i, its section or its stages: their processor, and how long they take in a period

@@ -44,8 +44,7 @@ use Rattle.picks.specs.Pick.{sectionOn, stageOn, chosen, waits, holds, ready, f
 use Rattle.machine.specs.Chart.{threes, topsOf, chartOf}
 use Rattle.machine.specs.Tick.{Arrivals, serveAt, releases, picked, units, step, jobsAt, releasedAt}
 use Rattle.run.specs.Answer.{heard}
-use Rattle.intime.specs.Parts.{boundOf, releaseOf}
-use Rattle.intime.specs.Demand3.{InTime, Ends, after, released, machine}
+use Rattle.intime.specs.Demand3.{boundOf, releaseOf, InTime, Ends, after, released, machine}
 use Rattle.intime.proofs.Planned.{list-valid}
 use Rattle.intime.proofs.Theorem.{demand-3}
 

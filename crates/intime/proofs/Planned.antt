@@ -18,9 +18,8 @@ use Rattle.arrivals.specs.Seek.{GoodArrivals}
 use Rattle.arrivals.proofs.Good.{arrivals-good}
 use Rattle.arrivals.proofs.Seeking.{Brought, brings-fits, brings-apart}
 use Rattle.run.specs.Answer.{heard}
-use Rattle.intime.specs.Parts.{lenOf}
+use Rattle.intime.specs.Demand3.{lenOf, Valid}
 use Rattle.intime.specs.Stands.{Covers, Stands}
-use Rattle.intime.specs.Valid.{Valid}
 
 -- the least bound that covers covers
 least-covers : (terms : List Term) (len blocking bound : ℕ) → LeastBound terms len blocking bound → Covers terms len blocking bound

@@ -17,10 +17,8 @@ use Rattle.chain.proofs.Row.{Fine, IsRunning}
 use Rattle.picks.specs.Pick.{home}
 use Rattle.machine.specs.Chart.{chartOf}
 use Rattle.machine.specs.Tick.{Arrivals}
-use Rattle.intime.specs.Parts.{lenOf, boundOf, releaseOf}
+use Rattle.intime.specs.Demand3.{lenOf, boundOf, releaseOf, Valid, Ended, Begun, released, InTime, Ends, at-once, after, ForPlans, Demand3}
 use Rattle.intime.specs.Stands.{Stands}
-use Rattle.intime.specs.Valid.{Valid}
-use Rattle.intime.specs.Demand3.{Ended, Begun, released, InTime, Ends, at-once, after, ForPlans, Demand3}
 use Rattle.intime.proofs.System.{System, homes, rank, top-of, job, mid}
 use Rattle.intime.proofs.Ticks.{picked-is, running-home}
 use Rattle.intime.proofs.Induction.{always}

@@ -1,4 +1,2 @@
-pub mod Parts
 pub mod Stands
-pub mod Valid
 pub mod Demand3

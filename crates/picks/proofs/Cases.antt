@@ -13,8 +13,7 @@ use Rattle.chain.specs.declared.Place.the-variants.{Idle, Waiting, Running}
 use Rattle.chain.specs.declared.Job.{Job}
 use Rattle.chain.specs.Job.{jobAt}
 use Rattle.picks.specs.Pick.{isSection, home, sectionOn, stageOn, chosen, waits, holds, ready, firstOn, lastOn, stageFor, clear, pick}
-use Rattle.picks.proofs.Bests.{not-both, and-both, smaller-first, larger-first, best-passes, best-none, best-first, every-not}
-use Rattle.picks.proofs.Picked.{clear-told}
+use Rattle.picks.proofs.Bests.{not-both, and-both, smaller-first, larger-first, best-passes, best-none, best-first, every-at, every-not}
 
 -- the job's place is a released, unfinished section on processor q; a stage there
 pub record Section (homes : List ℕ) (q i : ℕ) (x : Job) : Type 0 where
@@ -128,7 +127,11 @@ module _ (homes ranks tops : List ℕ) (n : ℕ) (js : List Job) (q : ℕ) where
   unfolding lastOn
   last-none e i l s b = not-both (told-holds i s b) (best-none _ _ _ larger-first n e i l)
 
-  -- where its rank is not strictly better than all ceilings held, one is held that stops it
+  -- "its rank is strictly better than the ceilings of all resources held there": it is, or one is held that stops it
+  pub clear-told : (x : ℕ) → clear homes ranks tops n js q (suc x) ≡ true → (i : ℕ) → i < n → holds homes ranks tops n js q i ≡ true → getD ranks x 0 < getD tops i 0
+  unfolding clear
+  clear-told x h i l e = ltb-true _ _ (rw e at (every-at _ n h i l))
+
   clear-not : (x : ℕ) → clear homes ranks tops n js q (suc x) ≡ false → (d : ℕ) × (d < n) × Section homes q d (jobAt js d) × (1 ≤ jobAt js d .begun) × (getD tops d 0 ≤ getD ranks x 0)
   unfolding clear
   clear-not x e =
@@ -155,7 +158,7 @@ module _ (homes ranks tops : List ℕ) (n : ℕ) (js : List Job) (q : ℕ) where
   -- both the best not yet begun and the one begun last are there
   one-of-two : (x y : ℕ) → firstOn homes ranks tops n js q ≡ suc x → lastOn homes ranks tops n js q ≡ suc y
       → (b : Bool) → clear homes ranks tops n js q (suc x) ≡ b → Picks (cond b (suc x) (suc y))
-  one-of-two x y f e true c = starts-first x f (λ i l s b. clear-told homes ranks tops n js q x c i l (told-holds i s b))
+  one-of-two x y f e true c = starts-first x f (λ i l s b. clear-told x c i l (told-holds i s b))
   one-of-two x y f e false c =
       let (d, l, s, b, top) = clear-not x c in
       goes-last y e (λ i k t z. (d, l, s, b, omega (arith, top, first-told x f .3 i k t z)))

@@ -1,5 +1,5 @@
 pub mod Bests
+pub mod Cases
 pub mod Columns
 pub mod Picked
-pub mod Cases
 pub mod Started

@@ -4,7 +4,7 @@ use mathlib.Core.Path.{_≡_, refl, sym, _∙_, ap}
 use mathlib.Core.Bool.{Bool, true, false, not, _&&_, _||_, or-true}
 use mathlib.Core.List.{List}
 use native.Mathlib.Omega.{arith}
-use borrow.Author.Tests.{ltb-true, ltb-false, lt-ltb, eqb-true, eqb-false}
+use borrow.Author.Tests.{ltb-false, lt-ltb, eqb-true, eqb-false}
 use lib.ListN.{getD}
 use lib.Dec.{ltb, eqb}
 use Rattle.chain.specs.declared.Place.{Place}
@@ -13,7 +13,8 @@ use Rattle.chain.specs.declared.Job.{Job}
 use Rattle.chain.specs.Job.{jobAt}
 use Rattle.picks.specs.Pick.{gtb, home, sectionOn, stageOn, chosen, waits, holds, ready, firstOn, lastOn, stageFor, clear, pick}
 use Rattle.picks.specs.Offer.{Best, keyOf, lowest, Offered}
-use Rattle.picks.proofs.Bests.{not-both, and-both, smaller-first, larger-first, best-passes, best-none, best-le, best-same, every-at, every-all, every-same, below-lowest}
+use Rattle.picks.proofs.Cases.{clear-told}
+use Rattle.picks.proofs.Bests.{not-both, and-both, smaller-first, larger-first, best-passes, best-none, best-le, best-same, every-all, every-same, below-lowest}
 
 -- a stage is chosen where there is no section; the best section not yet begun, if none is begun or it is clear; and otherwise the one begun last
 pub chosen-stage : (x y s : ℕ) (b : Bool) → x ≡ 0 → y ≡ 0 → chosen x y s b ≡ s
@@ -110,10 +111,6 @@ module _ (homes ranks tops : List ℕ) (n : ℕ) (js : List Job) (q : ℕ) where
       go i l true e = lt-ltb _ _ (h i l e)
       go i l false e = refl
 
-  pub clear-told : (x : ℕ) → clear homes ranks tops n js q (suc x) ≡ true → Clear x
-  unfolding clear
-  clear-told x h i l e = ltb-true _ _ (rw e at (every-at _ n h i l))
-
   -- PCP: "the best-ranked released section not yet begun starts if nothing begun is unfinished there, or if its rank is
   -- strictly better than the ceilings of all resources held there;
   pub starts-clear : (x : ℕ) → firstOn homes ranks tops n js q ≡ suc x → Clear x → pick homes ranks tops n js q ≡ suc x
@@ -130,7 +127,7 @@ module _ (homes ranks tops : List ℕ) (n : ℕ) (js : List Job) (q : ℕ) where
   begun-last-runs y e k = rw e (chosen-last _ (suc y) _ _ (λ d. omega arith) (λ d. blocked (firstOn homes ranks tops n js q) refl))
     where
       told : (x : ℕ) → firstOn homes ranks tops n js q ≡ suc x → (t : Bool) → clear homes ranks tops n js q (suc x) ≡ t → t ≡ false
-      told x d true h = absurd (k x d (clear-told x h))
+      told x d true h = absurd (k x d (clear-told homes ranks tops n js q x h))
       told x d false h = refl
 
       blocked : (f : ℕ) → firstOn homes ranks tops n js q ≡ f → clear homes ranks tops n js q f ≡ false
