@@ -1,6 +1,7 @@
 //! The comparison of the product with this program: one file for each thing that is compared.
 //! A further one is a further line in COMPARISONS.
 
+mod bounds;
 mod list;
 mod plan;
 mod reader;
@@ -14,7 +15,13 @@ use crate::product::Product;
 /// Compares one thing; hands back lines that sum up, or what does not agree.
 type Comparison = fn(&Options, &mut Product) -> Result<Vec<String>, String>;
 
-const COMPARISONS: [Comparison; 4] = [reader::compare, plan::compare, list::compare, run::compare];
+const COMPARISONS: [Comparison; 5] = [
+    reader::compare,
+    plan::compare,
+    list::compare,
+    run::compare,
+    bounds::compare,
+];
 
 /// Makes every comparison, up to the first mismatch.
 pub fn all(options: &Options, mut product: Product) -> Result<(), String> {

@@ -1,6 +1,9 @@
 //! The machine, one tick at a time: jobs in a list, their stages released at fixed ticks, and one
 //! unit run by each processor.
 
+#[cfg(test)]
+pub mod mistakes;
+
 use crate::plan::Plan;
 use crate::rank::Ranks;
 use crate::table::{Protocol, Table};
@@ -60,7 +63,24 @@ struct At {
     stage: usize,
 }
 
+/// What a machine goes by: the paper's rules, or in tests some with a mistake.
+#[derive(Clone, Copy)]
+pub struct Rules {
+    /// The stage that a processor runs a unit of, if there is one.
+    choose: fn(&Machine, usize) -> Option<At>,
+    /// What the end of a stage, at a tick, brings with it.
+    end: fn(&mut Machine, At, u64),
+}
+
+impl Rules {
+    pub const PAPER: Rules = Rules {
+        choose: |machine, processor| machine.choose(processor),
+        end: |machine, at, end| machine.end(at, end),
+    };
+}
+
 pub struct Machine<'a> {
+    pub rules: Rules,
     table: &'a Table,
     ranks: &'a Ranks,
     plan: &'a Plan,
@@ -75,6 +95,7 @@ pub struct Machine<'a> {
 impl<'a> Machine<'a> {
     pub fn new(table: &'a Table, ranks: &'a Ranks, plan: &'a Plan) -> Machine<'a> {
         Machine {
+            rules: Rules::PAPER,
             table,
             ranks,
             plan,
@@ -161,7 +182,7 @@ impl<'a> Machine<'a> {
         self.stage_mut(at).released = true;
         // "A stage of actual length 0 ends at its release, in the tick that releases it."
         if self.stage(at).left == 0 {
-            self.end(at, now);
+            (self.rules.end)(self, at, now);
         }
     }
 
@@ -186,7 +207,7 @@ impl<'a> Machine<'a> {
 
     /// Runs one unit on a processor, if there is one to run, and hands back the trace's byte.
     fn run_unit(&mut self, processor: usize, now: u64) -> u8 {
-        let Some(at) = self.choose(processor) else {
+        let Some(at) = (self.rules.choose)(self, processor) else {
             // "Idle is a zero byte."
             return 0;
         };
@@ -199,7 +220,7 @@ impl<'a> Machine<'a> {
         if last {
             // "One whose last unit runs in tick t ends at t + 1, and a run that steps tick t
             // counts that end."
-            self.end(at, now + 1);
+            (self.rules.end)(self, at, now + 1);
             self.drop_ended();
         }
         trace_byte(at.stage, row)

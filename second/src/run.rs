@@ -117,7 +117,16 @@ pub fn steps(
     w: u64,
 ) -> Result<(Vec<u8>, Done), usize> {
     let ranks = Ranks::of(table);
-    let mut machine = Machine::new(table, &ranks, plan);
+    steps_by(Machine::new(table, &ranks, plan), arrivals, f, w)
+}
+
+/// The same by this machine, which has not stepped any tick yet.
+pub fn steps_by(
+    mut machine: Machine,
+    arrivals: &[Arrival],
+    f: u64,
+    w: u64,
+) -> Result<(Vec<u8>, Done), usize> {
     let mut trace = Vec::new();
     let mut coming = arrivals;
     for now in 0..f + w {

@@ -3,7 +3,7 @@
 use crate::fast;
 use crate::inputs::{one_bad, several_bad};
 use crate::random::{arrivals, small_table, some_length, Random};
-use crate::raw;
+use crate::raw::{self, RawTable};
 use crate::run::Arrival;
 use crate::run_call::RunCall;
 use crate::table::{read, Table};
@@ -113,14 +113,14 @@ fn small(random: &mut Random) -> RunCall {
 
 /// From tick 0 on, so that all of it is in the trace.
 fn crowded(random: &mut Random) -> RunCall {
-    let table = planned(random, crowded_table);
+    let table = planned(random, |random| crowded_table(random).bytes());
     let w = random.within(100, 700);
     good_call(random, table, 0, w)
 }
 
 /// Several sections on few processors. The longer a period, the longer its section, and in most
 /// rows the higher its resource, so that some rows are better than some ceilings.
-fn crowded_table(random: &mut Random) -> Vec<u8> {
+pub fn crowded_table(random: &mut Random) -> RawTable {
     let resources = random.within(2, 5);
     let share = random.pick(&[4, 8, 14]);
     let mut rows = Vec::new();
@@ -135,13 +135,13 @@ fn crowded_table(random: &mut Random) -> Vec<u8> {
         let a = random.within(1, (t * share / 100).max(1));
         rows.push((t, c1, a, c2, resource));
     }
-    raw::table(random.within(2, 4), random.within(0, 1), &rows).bytes()
+    raw::table(random.within(2, 4), random.within(0, 1), &rows)
 }
 
 fn hollow(random: &mut Random) -> RunCall {
     let bytes = match random.within(0, 2) {
         0 => planned(random, |random| small_table(random).bytes()),
-        _ => planned(random, hollow_table),
+        _ => planned(random, |random| hollow_table(random).bytes()),
     };
     let f = random.pick(&[0, 0, 0, 7]);
     let w = random.within(0, 120);
@@ -151,7 +151,7 @@ fn hollow(random: &mut Random) -> RunCall {
 
 /// Rows that have no stage two and take all of their period, so that it is released when the next
 /// job arrives; and rows of one part, with stages that are released in the tick of the arrival.
-fn hollow_table(random: &mut Random) -> Vec<u8> {
+pub fn hollow_table(random: &mut Random) -> RawTable {
     let mut rows = Vec::new();
     for resource in 1..=random.within(1, 4) {
         let t = random.within(2, 12);
@@ -163,13 +163,13 @@ fn hollow_table(random: &mut Random) -> Vec<u8> {
             (t, 0, 0, t - c1, 0),
         ]));
     }
-    raw::table(random.within(2, 8), random.within(0, 1), &rows).bytes()
+    raw::table(random.within(2, 8), random.within(0, 1), &rows)
 }
 
 fn late(random: &mut Random) -> RunCall {
     let table = match random.once_in(2) {
         true => planned(random, |random| small_table(random).bytes()),
-        false => planned(random, crowded_table),
+        false => planned(random, |random| crowded_table(random).bytes()),
     };
     let f = random.within(100, 2_500);
     let w = random.within(0, 300);

@@ -198,6 +198,20 @@ pub fn largest_within(random: &mut Random, shortest: u64, longest: u64) -> RawTa
     shape.table(random)
 }
 
+/// Rows and processors in any number, with periods in these limits, and lengths at the edge of what
+/// can be planned under the protocol.
+pub fn fullest_within(random: &mut Random, protocol: u64, shortest: u64, longest: u64) -> RawTable {
+    let shape = Shape {
+        shortest,
+        longest,
+        load: random.within(60, 100),
+        ..Shape::any(random)
+    };
+    let full = under(protocol, &shape.table(random));
+    let planned = last_planned(&full, |table| is_planned(&table.bytes()));
+    part_of(&full, planned)
+}
+
 /// Lengths grow in 64 steps from next to nothing to too much; the last step that is planned, or
 /// the one behind it.
 fn at_the_edge(random: &mut Random) -> Vec<u8> {

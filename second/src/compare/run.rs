@@ -59,7 +59,7 @@ fn compare_all(
     }
 }
 
-fn judge(
+pub fn judge(
     name: &str,
     call: &RunCall,
     second: &Outcome,
@@ -75,7 +75,7 @@ fn judge(
 }
 
 /// What the call hands over beside the table; the arrivals as `second run` reads them.
-fn told(call: &RunCall) -> String {
+pub fn told(call: &RunCall) -> String {
     let mut text = format!(
         "f {} w {}, trace of {} bytes from {:02x} on, {} arrivals",
         call.from,
