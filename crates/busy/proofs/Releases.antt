@@ -17,7 +17,7 @@ use Rattle.busy.proofs.Window.{window}
 abbrev pub Spaced : (ℕ → ℕ) → ℕ → Type 0
 Spaced new period = (a b : ℕ) → 1 ≤ new a → 1 ≤ new b → a < b → a + period ≤ b
 
--- what n ticks hold of a period: c releases, the last of them l ticks into the window
+-- c releases in n ticks: none, or the last of them is l ticks into the window, with a period behind each of the others
 data Last (new : ℕ → ℕ) (period t0 n c : ℕ) : Type 0 where
   never : c ≡ 0 → Last new period t0 n c
   last : (l m : ℕ) → l < n → 1 ≤ new (t0 + l) → c ≡ suc m → m * period ≤ l → Last new period t0 n c
@@ -27,6 +27,7 @@ module _ (new : ℕ → ℕ) (period : ℕ) (spaced : Spaced new period) (t0 : �
   abbrev hit : ℕ → ℕ
   hit j = cond (ltb 0 (new (t0 + j))) 1 0
 
+  -- a tick more, with a release or without
   one-more : (n c : ℕ) (b : Bool) → ltb 0 (new (t0 + n)) ≡ b → Last new period t0 n c → Last new period t0 (suc n) (c + cond b 1 0)
   one-more n c true e (never z) = last n 0 (omega arith) (ltb-true 0 (new (t0 + n)) e) (omega arith) (omega arith)
   one-more n c true e (last l m hl hr hc hm) =
@@ -40,6 +41,7 @@ module _ (new : ℕ → ℕ) (period : ℕ) (spaced : Spaced new period) (t0 : �
   the-last zero = never refl
   the-last (suc n) = one-more n (total n hit) (ltb 0 (new (t0 + n))) refl (the-last n)
 
+  -- so there are no more releases than periods, begun ones counted
   hits-le : (n : ℕ) → 1 ≤ period → total n hit ≤ ceil n period
   hits-le n some = go (total n hit) (the-last n)
     where
@@ -48,7 +50,7 @@ module _ (new : ℕ → ℕ) (period : ℕ) (spaced : Spaced new period) (t0 : �
       go c (last l m hl hr hc hm) =
           elim (decLe (suc m) (ceil n period)) [ yes h ↦ omega arith | no h ↦ absurd (omega (arith, le-ceil n period m some (omega arith))) ]
 
-  -- what is released in a window
+  -- and what is released in the window is at most that many lengths
   pub released-le : (len : ℕ) → ((t : ℕ) → new t ≤ len) → 1 ≤ period → (n : ℕ) → window new t0 n ≤ ceil n period * len
   released-le len small some n =
       let a = total-mono n (λ j. new (t0 + j)) (λ j. hit j * len) (λ j h. upper (t0 + j) (ltb 0 (new (t0 + j))) refl) in

@@ -29,6 +29,7 @@ pub record System : Type 0 where
   pub len : ℕ → ℕ → ℕ
   pub block : ℕ → ℕ
   pub row : ℕ → ℕ
+  -- each row by itself, and the processor of each part that takes time
   pub fit : (i : ℕ) → i < chart .n → RowFit (chart .bounds) i (ar i) (period i) (len i)
   pub positive : (i : ℕ) → i < chart .n → 1 ≤ period i
   pub homed : (i j : ℕ) → i < chart .n → j < 3 → 1 ≤ len i j → home (chart .homes) i j < 17
