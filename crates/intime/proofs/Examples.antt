@@ -1,9 +1,8 @@
 -- Two runs of case P under the theorem: one in which a section waits behind a lower-ranked one and ends, and one in which a bound is met exactly.
 use Prim.Native.Nat.{ℕ, _+_}
-use mathlib.Core.Path.{_≡_, refl, subst}
+use mathlib.Core.Path.{_≡_, refl}
 use mathlib.Core.Bool.{xor}
 use mathlib.Core.List.{List, [], _∷_}
-use native.Mathlib.Omega.{arith}
 use lib.ListN.{getD}
 use Rattle.bits.specs.Bits.{bitsValue}
 use Rattle.lists.specs.Tab.{tab, blank, filled, joined}
@@ -75,18 +74,31 @@ lane1 ar n = getD (picked (machine P planP ar) (releasedAt (machine P planP ar) 
 abbrev row : Arrivals → ℕ → ℕ → Place × ℕ
 row ar i n = (released P planP ar n i .place, released P planP ar n i .begun)
 
--- what the definitions compute for row 1 at tick 4, and at tick 3
+-- Row 1 arrives at 4. Its section, released at 5, waits in ticks 5 and 6 while the lower-ranked row 2 is at its section, begun in
+-- tick 4; it runs in ticks 7 and 8 and ends at 9, within its bound of 5.
+pub record Waited (ar : Arrivals) : Type 0 where
+  pub ranks : (getD (P .rank) 0 0 ≡ 0) × (getD (P .rank) 1 0 ≡ 1)
+  pub release : releaseOf planP 0 4 1 ≡ 5
+  pub bound : boundOf planP 0 1 ≡ 5
+  pub waits : row ar 0 5 ≡ (Running 1 2, 0)
+  pub lower : row ar 1 5 ≡ (Running 1 2, 5)
+  pub lanes : (lane1 ar 5 ≡ 2) × (lane1 ar 6 ≡ 2) × (lane1 ar 7 ≡ 1) × (lane1 ar 8 ≡ 1)
+  pub ends : Ends P planP ar 0 4 1 (1 ∷ 2 ∷ 1 ∷ []) 9
+
+-- Row 1 arrives at 3. Row 2's section, released at 4 together with row 1's, ends at 9: exactly its bound of 5 later.
+pub record Exact (ar : Arrivals) : Type 0 where
+  pub release : releaseOf planP 1 0 1 ≡ 4
+  pub bound : boundOf planP 1 1 ≡ 5
+  pub ends : Ends P planP ar 1 0 1 (2 ∷ 3 ∷ 2 ∷ []) (4 + 5)
+
+-- what the definitions compute of both
 record Computed : Type 0 where
   read : readingOf bytesP .number ≡ 0
   planned : plannedOf P .outcome ≡ Planned
   heard4 : heard P (two 4) .number ≡ 0
   heard3 : heard P (two 3) .number ≡ 0
-  row1 : (P .n ≡ 3) × (getD (P .rank) 0 0 ≡ 0) × (releaseOf planP 0 4 1 ≡ 5) × (boundOf planP 0 1 ≡ 5)
-  row2 : (getD (P .rank) 1 0 ≡ 1) × (releaseOf planP 1 0 1 ≡ 4) × (boundOf planP 1 1 ≡ 5)
-  waits : (row (brings (two 4)) 0 5 ≡ (Running 1 2, 0)) × (row (brings (two 4)) 1 5 ≡ (Running 1 2, 5))
-  lanes : (lane1 (brings (two 4)) 5 ≡ 2) × (lane1 (brings (two 4)) 6 ≡ 2) × (lane1 (brings (two 4)) 7 ≡ 1) × (lane1 (brings (two 4)) 8 ≡ 1)
-  ends4 : Ends P planP (brings (two 4)) 0 4 1 (1 ∷ 2 ∷ 1 ∷ []) 9
-  ends3 : Ends P planP (brings (two 3)) 1 0 1 (2 ∷ 3 ∷ 2 ∷ []) 9
+  at4 : Waited (brings (two 4))
+  at3 : Exact (brings (two 3))
 
 computed : Computed
 unfolding bitsValue tab blank filled joined first count largest rankOf ranksOf ceilingOf ceilingsOf inRank inRows numbersTo xor outside judged rowOf rowNumberOf headerNumber rowNumber firstBad column ranked tableOf rowsReading readingOf ceil demand termsOn least leastOf mayBlock blockingOf sectionBound firstMissing sectionsOf fitOf fitAmong placeWith placeAmong fitOn placed placeOf firstNowhere stagesTo stagesOf weightOf weightsOf usedOf lacksOf heaviestOf lightestOf loadsOf servesOf weighed tasksOf numberOf planBy serves homes sections stages trialOf failures planningOf plannedOf isOf brings disordered lastOf numberAt firstBadArrival heardOf isIdle moved off starts enter wakeAt admit mark next unitOf beat best every sectionOn stageOn chosen waits holds ready firstOn lastOn stageFor clear pick threes topsOf chartOf serveAt releases picked units step jobsAt releasedAt boundOf releaseOf
@@ -96,12 +108,17 @@ computed =
       planned = refl;
       heard4 = refl;
       heard3 = refl;
-      row1 = (refl, refl, refl, refl);
-      row2 = (refl, refl, refl);
-      waits = (refl, refl);
-      lanes = (refl, refl, refl, refl);
-      ends4 = after 8 refl refl refl refl;
-      ends3 = after 8 refl refl refl refl;
+      at4 =
+          record {
+            ranks = (refl, refl);
+            release = refl;
+            bound = refl;
+            waits = refl;
+            lower = refl;
+            lanes = (refl, refl, refl, refl);
+            ends = after 8 refl refl refl refl;
+          };
+      at3 = record { release = refl; bound = refl; ends = after 8 refl refl refl refl };
     }
 
 -- the theorem speaks of both
@@ -110,15 +127,8 @@ under tick good =
     demand-3 bytesP (computed .read) (computed .planned) (brings (two tick))
     (list-valid P (table-good bytesP (readingOf bytesP) refl (computed .read)) (two tick) good)
 
--- Row 1's section, released at 5, waits while the lower-ranked row 2 is at its section, begun in tick 4; it runs in ticks 7 and 8 and ends
--- at 9, within its bound of 5.
-pub waited : InTime P planP (brings (two 4))
-    × (row (brings (two 4)) 0 5 ≡ (Running 1 2, 0)) × (row (brings (two 4)) 1 5 ≡ (Running 1 2, 5))
-    × ((lane1 (brings (two 4)) 5 ≡ 2) × (lane1 (brings (two 4)) 6 ≡ 2) × (lane1 (brings (two 4)) 7 ≡ 1) × (lane1 (brings (two 4)) 8 ≡ 1))
-    × Ends P planP (brings (two 4)) 0 4 1 (1 ∷ 2 ∷ 1 ∷ []) 9
-waited = (under 4 (computed .heard4), computed .waits .0, computed .waits .1, computed .lanes, computed .ends4)
+pub waited : InTime P planP (brings (two 4)) × Waited (brings (two 4))
+waited = (under 4 (computed .heard4), computed .at4)
 
--- Row 2's section, released at 4 together with row 1's, ends at 9: exactly its bound of 5 later.
-pub exact : InTime P planP (brings (two 3)) × Ends P planP (brings (two 3)) 1 0 1 (2 ∷ 3 ∷ 2 ∷ []) (releaseOf planP 1 0 1 + boundOf planP 1 1)
-exact =
-    (under 3 (computed .heard3), subst (Ends P planP (brings (two 3)) 1 0 1 (2 ∷ 3 ∷ 2 ∷ [])) (omega (arith, computed .row2 .1, computed .row2 .2)) (computed .ends3))
+pub exact : InTime P planP (brings (two 3)) × Exact (brings (two 3))
+exact = (under 3 (computed .heard3), computed .at3)
