@@ -13,7 +13,7 @@ use std::thread;
 use std::time::Duration;
 
 /// How many requests are sent before their answers are read.
-pub const BATCH: usize = 256;
+const BATCH: usize = 256;
 /// How long the product may say nothing.
 const PATIENCE: Duration = Duration::from_secs(30);
 const ANSWER_BYTES: usize = 12;
@@ -94,6 +94,28 @@ impl Product {
     /// Makes each of the calls; as many answers follow, each with its trace.
     pub fn ask_to_run(&mut self, calls: &[RunCall]) {
         self.ask(calls.iter().flat_map(run_frame).collect());
+    }
+
+    /// Asks about all of these in batches, and looks at each when its answers come next, up to the
+    /// first failure. The product has its next batch while one is looked at.
+    pub fn in_batches<T>(
+        &mut self,
+        mut all: impl Iterator<Item = T>,
+        ask: impl Fn(&mut Product, &[T]),
+        mut look: impl FnMut(&mut Product, &T) -> Result<(), String>,
+    ) -> Result<(), String> {
+        let mut asked: Vec<T> = Vec::new();
+        loop {
+            let next: Vec<T> = all.by_ref().take(BATCH).collect();
+            ask(self, &next);
+            for one in &asked {
+                look(self, one)?;
+            }
+            if next.is_empty() {
+                return Ok(());
+            }
+            asked = next;
+        }
     }
 
     fn ask(&mut self, frames: Vec<u8>) {

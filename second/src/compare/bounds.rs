@@ -9,7 +9,7 @@ use crate::aimed::{planned, Kind, Planned, KINDS};
 use crate::checks::hex;
 use crate::fast_run::Ran;
 use crate::options::Options;
-use crate::product::{Call, Product, BATCH};
+use crate::product::{Call, Product};
 use crate::random::Random;
 use crate::run_call::RunCall;
 use crate::sheet;
@@ -51,7 +51,9 @@ pub fn compare(options: &Options, product: &mut Product) -> Result<Vec<String>, 
             let name = format!("bounds: {} under {short}", kind.name);
             let mut random = Random::new(options.seed, &name);
             let runs = (0..kind.count).map(|_| Run::new(&mut random, &kind, protocol));
-            hold_all(product, &name, runs, &mut tally)?;
+            product.in_batches(runs, ask, |product, run| {
+                run.hold(product, &name, &mut tally)
+            })?;
         }
         lines.push(format!("bounds: under {short}: {}", tally.words()));
         let few = |few| format!("bounds: under {short}: {few}");
@@ -60,27 +62,11 @@ pub fn compare(options: &Options, product: &mut Product) -> Result<Vec<String>, 
     Ok(lines)
 }
 
-/// In batches, up to the first failure; the product has its next batch while one is looked at.
-fn hold_all(
-    product: &mut Product,
-    name: &str,
-    mut runs: impl Iterator<Item = Run>,
-    tally: &mut Counts,
-) -> Result<(), String> {
-    let mut asked: Vec<Run> = Vec::new();
-    loop {
-        let next: Vec<Run> = runs.by_ref().take(BATCH).collect();
-        for run in &next {
-            product.ask_to_plan(&[run.plan_call()]);
-            product.ask_to_run(std::slice::from_ref(&run.call));
-        }
-        for run in &asked {
-            run.hold(product, name, tally)?;
-        }
-        if next.is_empty() {
-            return Ok(());
-        }
-        asked = next;
+/// Asks for each table to be planned and then to be run.
+fn ask(product: &mut Product, runs: &[Run]) {
+    for run in runs {
+        product.ask_to_plan(&[run.plan_call()]);
+        product.ask_to_run(std::slice::from_ref(&run.call));
     }
 }
 

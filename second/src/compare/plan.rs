@@ -8,7 +8,7 @@ use crate::checks::hex;
 use crate::fast;
 use crate::options::Options;
 use crate::plan::{weight, Plan};
-use crate::product::{Call, Product, BATCH};
+use crate::product::{Call, Product};
 use crate::random::Random;
 use crate::sheet::plan_into;
 use crate::table::{read, Protocol, Table};
@@ -108,26 +108,18 @@ pub fn compare(options: &Options, product: &mut Product) -> Result<Vec<String>, 
     Ok(lines)
 }
 
-/// In batches, up to the first mismatch; the product has its next batch while one is compared.
+/// Up to the first mismatch.
 fn compare_all(
     product: &mut Product,
     name: &str,
-    mut calls: impl Iterator<Item = Call>,
+    calls: impl Iterator<Item = Call>,
     tally: &mut Counts,
 ) -> Result<(), String> {
-    let mut asked = Vec::new();
-    loop {
-        let next: Vec<Call> = calls.by_ref().take(BATCH).collect();
-        product.ask_to_plan(&next);
-        for call in &asked {
-            let plan = compare_one(product, name, call)?;
-            tally.count(seen(call, &plan));
-        }
-        if next.is_empty() {
-            return Ok(());
-        }
-        asked = next;
-    }
+    product.in_batches(calls, Product::ask_to_plan, |product, call| {
+        let plan = compare_one(product, name, call)?;
+        tally.count(seen(call, &plan));
+        Ok(())
+    })
 }
 
 /// What one of the planners makes of a call: its answer, and the sheet afterwards.

@@ -4,7 +4,7 @@ use super::mismatch;
 use crate::answer::Refusal;
 use crate::inputs::{SETS, STREAMS};
 use crate::options::Options;
-use crate::product::{Product, BATCH};
+use crate::product::Product;
 use crate::random::Random;
 use crate::table;
 
@@ -59,23 +59,18 @@ pub fn compare(options: &Options, product: &mut Product) -> Result<Vec<String>, 
     Ok(lines)
 }
 
-/// In batches, up to the first mismatch.
+/// Up to the first mismatch.
 fn compare_all(
     product: &mut Product,
     name: &str,
-    mut inputs: impl Iterator<Item = Vec<u8>>,
+    inputs: impl Iterator<Item = Vec<u8>>,
 ) -> Result<Tally, String> {
     let mut tally = Tally::default();
-    loop {
-        let batch: Vec<Vec<u8>> = inputs.by_ref().take(BATCH).collect();
-        if batch.is_empty() {
-            return Ok(tally);
-        }
-        product.ask_to_read(&batch);
-        for input in &batch {
-            tally.add(compare_one(product, name, input)?);
-        }
-    }
+    product.in_batches(inputs, Product::ask_to_read, |product, input| {
+        tally.add(compare_one(product, name, input)?);
+        Ok(())
+    })?;
+    Ok(tally)
 }
 
 /// The product has been asked about the input, and its answer comes next.

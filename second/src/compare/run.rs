@@ -8,7 +8,7 @@ mod watch;
 use super::mismatch;
 use crate::checks::hex;
 use crate::options::Options;
-use crate::product::{Product, BATCH};
+use crate::product::Product;
 use crate::random::Random;
 use crate::run_call::{Outcome, RunCall};
 use crate::runs::KINDS;
@@ -34,29 +34,21 @@ pub fn compare(options: &Options, product: &mut Product) -> Result<Vec<String>, 
     Ok(lines)
 }
 
-/// In batches, up to the first mismatch; the product has its next batch while one is compared.
+/// Up to the first mismatch.
 fn compare_all(
     product: &mut Product,
     name: &str,
-    mut calls: impl Iterator<Item = RunCall>,
+    calls: impl Iterator<Item = RunCall>,
     counts: &mut Counts,
 ) -> Result<(), String> {
-    let mut asked: Vec<RunCall> = Vec::new();
-    loop {
-        let next: Vec<RunCall> = calls.by_ref().take(BATCH).collect();
-        product.ask_to_run(&next);
-        for call in &asked {
-            let second = call.plainly();
-            judge(name, call, &second, product.ran(call))?;
-            let speed = format!("{name} (the machine written for speed)");
-            judge(&speed, call, &second, Ok(call.fast()))?;
-            counts.count(call, &second);
-        }
-        if next.is_empty() {
-            return Ok(());
-        }
-        asked = next;
-    }
+    product.in_batches(calls, Product::ask_to_run, |product, call| {
+        let second = call.plainly();
+        judge(name, call, &second, product.ran(call))?;
+        let speed = format!("{name} (the machine written for speed)");
+        judge(&speed, call, &second, Ok(call.fast()))?;
+        counts.count(call, &second);
+        Ok(())
+    })
 }
 
 pub fn judge(
