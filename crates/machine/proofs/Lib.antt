@@ -1,3 +1,4 @@
+pub mod Dues
 pub mod Threes
 pub mod Served
 pub mod Keep

@@ -1,5 +1,5 @@
 -- What the machine's numbers keep to.
-use Prim.Native.Nat.{ℕ, _+_, _*_, _≤_, _<_}
+use Prim.Native.Nat.{ℕ, zero, suc, _+_, _*_, _≤_, _<_, min}
 use mathlib.Core.Path.{_≡_}
 use mathlib.Core.List.{List}
 use lib.ListN.{getD, length}
@@ -35,6 +35,11 @@ pub record Coming (n : ℕ) (xs : List Arrival) (next t : ℕ) : Type 0 where
 -- the next tick with a release of each row stands in a column
 abbrev pub Dues : ℕ → List ℕ → List Job → List ℕ → Type 0
 Dues n bounds js dues = (i : ℕ) → i < n → getD dues i 0 ≡ dueOf bounds i (jobAt js i)
+
+-- the first of the next releases of n rows; past all ticks if there is no row
+unfoldable pub soonestOf : ℕ → List ℕ → ℕ
+soonestOf zero dues = 4294967295
+soonestOf (suc k) dues = min (getD dues k 0) (soonestOf k dues)
 
 -- the numbers of n rows before tick t, and the column of their next releases; past row n no task has arrived
 pub record Held (n : ℕ) (bounds : List ℕ) (t : ℕ) (flat dues : List ℕ) : Type 0 where

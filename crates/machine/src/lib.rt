@@ -15,7 +15,7 @@ ghost use Rattle.arrivals.specs.Arrival.{arrivalAt, arrivalsOf, brings};
 ghost use Rattle.machine.specs.Chart.{threes, chartOf};
 ghost use Rattle.machine.specs.Tick.{serve, kindOf, byteOf, notedAt, releases, lateRow};
 ghost use Rattle.machine.specs.Counts.{tallyOf};
-ghost use Rattle.machine.specs.Good.{Dues, Held, Coming};
+ghost use Rattle.machine.specs.Good.{Dues, soonestOf, Held, Coming};
 use chain::Job;
 use chain::Place;
 use plan::Plan;
@@ -126,10 +126,10 @@ fn release_row(
     r.late
 }
 
-// A tick before which none of n rows has a release.
+// The first of the next releases of n rows.
 pub fn soonest(due: &[u32], n: usize) -> u32
     requires { ⌜ (n ≤ 64) × (length (now due) ≡ 64) ⌝ }
-    ensures { λ r. ⌜ ((i : ℕ) → i < n → r ≤ getD (now (due .entry)) i 0) ⌝ }
+    ensures { λ r. ⌜ r ≡ soonestOf n (now (due .entry)) ⌝ }
 {
     let mut tick = 4294967295u32;
     for i in 0..n {

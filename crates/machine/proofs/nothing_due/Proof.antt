@@ -8,6 +8,7 @@ use borrow.Author.Needs.{needs}
 use borrow.Author.Tests.{ltb-true}
 use Rattle.arrivals.specs.Arrival.{arrivalIn}
 use Rattle.arrivals.proofs.Flat.{arrival-at}
+use Rattle.machine.proofs.Dues.{soonest-le}
 use Rattle.machine.proofs.nothing_due.Statement.{statement}
 use Rattle.machine.proofs.nothing_due.Tie as tie
 
@@ -32,7 +33,7 @@ unfolding arrivalIn
 returns-2 c e =
     let a = c .before .before .before .before .args in
     let l : a .t < c .soonest .result = ltb-true (a .t) (c .soonest .result) e in
-    (λ i h. omega (arith, c .soonest .ensures i h), λ h. rw (arrival-at (a .flat .now) (a .count) (a .next) h) (⊎-elim (λ w. w .2 .left) (λ w. absurd (omega (arith, w .left))) (c .before .if1 .came)))
+    (λ i h. omega (arith, c .soonest .ensures, soonest-le (a .due .now) (a .n) i h), λ h. rw (arrival-at (a .flat .now) (a .count) (a .next) h) (⊎-elim (λ w. w .2 .left) (λ w. absurd (omega (arith, w .left))) (c .before .if1 .came)))
 
 pub nothing-due-spec : {M : Type 1} → statement M
 nothing-due-spec = tie.close (tie.spec mul-if2 mul-if2-2 shared-slice-read-if2 returns soonest-requires returns-2)

@@ -1,22 +1,25 @@
--- `machine::soonest` meets its contract. The loop's invariant: no row passed has a release before the tick.
+-- `machine::soonest` meets its contract. The loop's invariant: the tick is the first of the next releases of the rows passed.
 use Prim.Native.Nat.{ℕ, _-_, _≤_, _<_}
+use mathlib.Core.Path.{_≡_, refl, sym, _∙_, ap}
 use mathlib.Core.Logic.{⊎-elim}
 use native.Mathlib.Omega.{arith}
-use borrow.Author.Count.{below-more}
 use borrow.Author.Needs.{needs}
 use lib.ListN.{getD}
+use Rattle.machine.specs.Good.{soonestOf}
+use Rattle.machine.proofs.Dues.{soonest-first, soonest-kept}
 use Rattle.machine.proofs.soonest.Statement.{statement}
 use Rattle.machine.proofs.soonest.Tie as tie
 
 abbrev Inv-loop : tie.InvT-loop
 Inv-loop due n tick₀ i₀ tick i =
-    (i ≤ n) × ((k : ℕ) → k < i → tick ≤ getD due k 0)
+    (i ≤ n) × (tick ≡ soonestOf i due)
 
 abbrev μ-loop : tie.MeasureT-loop
 μ-loop due n tick₀ i₀ tick i = n - i
 
 loop-holds : tie.Need-loop-holds Inv-loop μ-loop
-loop-holds c = (omega arith, λ k l. absurd (omega arith))
+unfolding soonestOf
+loop-holds c = (omega arith, refl)
 
 mul-d : tie.Need-mul-d Inv-loop μ-loop
 mul-d c = search needs
@@ -34,12 +37,12 @@ loop-again : tie.Need-loop-again Inv-loop μ-loop
 loop-again c =
     let l = c .before .before .before .loop in
     let due = c .before .before .before .before .args .due .now in
-    let less : (c .if1 .tick ≤ getD due (l .i) 0) × (c .if1 .tick ≤ l .tick) =
-    ⊎-elim (λ w. (omega (arith, w .1), omega (arith, w .1, w .0 .taken))) (λ w. (omega (arith, w .1, w .0 .left), omega (arith, w .1))) (c .if1 .came) in
-    (omega arith, below-more (λ k. c .if1 .tick ≤ getD due k 0) (l .i) (λ k b. omega (arith, l .inv .1 k b, less .1)) (less .0))
+    (omega arith, ⊎-elim (λ w. w .1 ∙ sym (soonest-first due (l .i) (omega (arith, w .0 .taken, l .inv .1)))) (λ w. w .1 ∙ l .inv .1 ∙ sym (soonest-kept due (l .i) (omega (arith, w .0 .left, l .inv .1)))) (c .if1 .came))
 
 returns : tie.Need-returns Inv-loop μ-loop
-returns c i l = c .before .loop .inv .1 i (omega arith)
+returns c =
+    let e : c .before .loop .i ≡ c .before .before .args .n = omega (arith, c .before .loop .inv .0) in
+    c .before .loop .inv .1 ∙ ap (λ (k : ℕ). soonestOf k (c .before .before .args .due .now)) e
 
 pub soonest-spec : {M : Type 1} → statement M
 soonest-spec =

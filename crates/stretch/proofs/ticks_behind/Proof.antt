@@ -6,6 +6,7 @@ use native.Mathlib.Omega.{arith}
 use borrow.Author.Needs.{needs}
 use lib.ListN.{getD}
 use Rattle.jobs.specs.Numbers.{jobIn}
+use Rattle.machine.proofs.Dues.{soonest-le}
 use Rattle.stretch.specs.Push.{Goes}
 use Rattle.stretch.proofs.ticks_behind.Statement.{statement}
 use Rattle.stretch.proofs.ticks_behind.Tie as tie
@@ -39,7 +40,7 @@ returns c =
     let e : suc (ticks - 1) ≡ ticks = omega arith in (
       omega (arith, all .0, calm .0, free .0, s .pre .1),
       λ h l. omega (arith, all .0, calm .0, free .1 (omega (arith, all .0, calm .0)) l),
-      λ h i l. omega (arith, all .0, calm .1 (omega (arith, all .0)), c .before .before .before .soonest .ensures i l),
+      λ h i l. omega (arith, all .0, calm .1 (omega (arith, all .0)), c .before .before .before .soonest .ensures, soonest-le (s .args .due .now) (s .args .n) i l),
       λ h q i l p. rw e (all .1 more q i l p),
     )
 
