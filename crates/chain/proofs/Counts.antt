@@ -1,15 +1,16 @@
--- What a job owes and what it has run: neither a release nor a unit changes their sum, and an arrival adds what it brings.
+-- What is counted of a job: neither a due release nor a unit changes it, and an arrival adds to it. So it is with the units that a job
+-- has run and owes, and with the jobs of a row that have ended and the one that is still there.
 use Prim.Native.Nat.{ℕ, zero, suc, _+_, _-_, _≤_, _<_}
-use mathlib.Core.Path.{_≡_, refl, ap}
-use mathlib.Core.Bool.{Bool, true, false, cond}
+use mathlib.Core.Path.{_≡_, refl, sym, _∙_, ap}
+use mathlib.Core.Bool.{Bool, true, false, cond, not}
 use mathlib.Core.List.{List, [], _∷_}
 use mathlib.Core.Option.{some}
 use native.Mathlib.Omega.{arith}
 use lib.Dec.{leb}
 use lib.ListN.{getD, length}
-use Rattle.chain.specs.Job.{Place, Idle, Waiting, Running, Job, isIdle, moved}
-use Rattle.chain.specs.Release.{release, starts, enter, wake, admit}
-use Rattle.chain.specs.Unit.{next, unitOf}
+use Rattle.chain.specs.Job.{Place, Idle, Waiting, Running, Job, noJob, isIdle, moved}
+use Rattle.chain.specs.Release.{release, starts, enter, wake, fresh, admit}
+use Rattle.chain.specs.Unit.{running, next, unitOf}
 use Rattle.chain.specs.Owed.{lensFrom, owes}
 use Rattle.chain.specs.Good.{partOf, GoodJob}
 use Rattle.chain.proofs.Cases.{next-cases, wake-cases, unit-cases}
@@ -32,7 +33,7 @@ lens-none zero (l ∷ ls) h = absurd (omega arith)
 lens-none (suc j) (l ∷ ls) h = lens-none j ls (omega arith)
 
 -- and an idle task owes nothing
-pub owes-idle : (ls : List ℕ) (p : Place) → isIdle p ≡ true → owes ls p ≡ 0
+owes-idle : (ls : List ℕ) (p : Place) → isIdle p ≡ true → owes ls p ≡ 0
 unfolding owes isIdle
 owes-idle ls Idle e = refl
 owes-idle ls (Waiting u j) e = let z : _≡_ {A = ℕ} 0 1 = cc in absurd (omega arith)
@@ -69,19 +70,55 @@ module _ (bounds : List ℕ) (i : ℕ) where
     unfolding moved
     lens-unit j l = unit-cases bounds i t (λ y. y .lens ≡ x .lens) x j l (λ m. refl) (λ m. refl)
 
-    pub wake-count : GoodJob x → lensFrom 3 (x .lens) ≡ 0 → owed (wake bounds i t x) + wake bounds i t x .ran ≡ owed x + x .ran
-    unfolding moved owes
-    wake-count g z =
-        wake-cases bounds i t (λ y. owed y + y .ran ≡ owed x + x .ran) x refl
-        (λ u j e. omega (arith, owes-enter (x .arrived) t (x .lens) z (3 - j) j (omega (arith, g .part, ap partOf e)), ap (owes (x .lens)) e))
+-- a count that is 0 at the start, that neither due releases nor units change, and to which an arrival at an idle task adds
+pub record Counted (count : Job → ℕ) (adds : List ℕ → ℕ) : Type 0 where
+  pub start : count noJob ≡ 0
+  pub woken : (bounds : List ℕ) (i t : ℕ) (x : Job) → GoodJob x → lensFrom 3 (x .lens) ≡ 0 → count (wake bounds i t x) ≡ count x
+  pub admitted : (bounds : List ℕ) (i t : ℕ) (x : Job) (ls : List ℕ) → isIdle (x .place) ≡ true → lensFrom 3 ls ≡ 0 → count (admit bounds i t x (some ls)) ≡ count x + adds ls
+  pub served : (bounds : List ℕ) (i t : ℕ) (x : Job) (j l : ℕ) → x .place ≡ Running j l → j < 3 → 1 ≤ l → lensFrom 3 (x .lens) ≡ 0 → count (unitOf bounds i t x j l) ≡ count x
 
-    pub admit-count : (ls : List ℕ) → lensFrom 3 ls ≡ 0 → owed (admit bounds i t x (some ls)) + admit bounds i t x (some ls) .ran ≡ x .ran + lensFrom 0 ls
-    unfolding admit moved
-    admit-count ls z = omega (arith, owes-enter t t ls z 3 0 (omega arith))
+-- the units that a job has run and owes: an arrival adds its lengths
+abbrev pub unitsOf : Job → ℕ
+unitsOf x = x .ran + owed x
 
-    pub unit-count : (j l : ℕ) → x .place ≡ Running j l → j < 3 → 1 ≤ l → lensFrom 3 (x .lens) ≡ 0 → owed (unitOf bounds i t x j l) + unitOf bounds i t x j l .ran ≡ owed x + x .ran
-    unfolding moved owes
-    unit-count j l e h p z =
-        unit-cases bounds i t (λ y. owed y + y .ran ≡ owed x + x .ran) x j l
-        (λ m. omega (arith, ap (owes (x .lens)) e))
-        (λ m. omega (arith, owes-next (x .arrived) j (x .lens) z h, ap (owes (x .lens)) e))
+pub units-counted : Counted unitsOf (lensFrom 0)
+unfolding admit moved owes
+units-counted =
+    record {
+      start = refl;
+      woken = λ bounds i t x g z. wake-cases bounds i t (λ y. unitsOf y ≡ unitsOf x) x refl
+          (λ u j e. omega (arith, owes-enter bounds i (x .arrived) t (x .lens) z (3 - j) j (omega (arith, g .part, ap partOf e)), ap (owes (x .lens)) e));
+      admitted = λ bounds i t x ls e z. omega (arith, owes-idle (x .lens) (x .place) e, owes-enter bounds i t t ls z 3 0 (omega arith));
+      served = λ bounds i t x j l e h p z. unit-cases bounds i t (λ y. unitsOf y ≡ unitsOf x) x j l
+          (λ m. omega (arith, ap (owes (x .lens)) e))
+          (λ m. omega (arith, owes-next bounds i (x .arrived) j (x .lens) z h, ap (owes (x .lens)) e));
+    }
+
+-- the jobs of a row that have ended, and the one that is still there: an arrival adds one
+abbrev there : Place → ℕ
+there p = cond (not (isIdle p)) 1 0
+
+abbrev pub jobsOf : Job → ℕ
+jobsOf x = x .ended + there (x .place)
+
+-- a job that goes to a place is there, or it has ended
+jobs-moved : (x : Job) (p : Place) → jobsOf (moved x p) ≡ x .ended + 1
+unfolding moved
+jobs-moved x p = go (isIdle p)
+  where
+    go : (b : Bool) → x .ended + cond b 1 0 + cond (not b) 1 0 ≡ x .ended + 1
+    go true = omega arith
+    go false = omega arith
+
+pub jobs-counted : Counted jobsOf (λ ls. 1)
+unfolding admit isIdle
+jobs-counted =
+    record {
+      start = refl;
+      woken = λ bounds i t x g z. wake-cases bounds i t (λ y. jobsOf y ≡ jobsOf x) x refl
+          (λ u j e. jobs-moved x _ ∙ sym (ap (λ (p : Place). x .ended + there p) e));
+      admitted = λ bounds i t x ls e z. rw e (jobs-moved (fresh bounds i t x ls _) _ ∙ omega arith);
+      served = λ bounds i t x j l e h p z. unit-cases bounds i t (λ y. jobsOf y ≡ jobsOf x) x j l
+          (λ m. omega (arith, ap there e))
+          (λ m. jobs-moved (running t x _) _ ∙ sym (ap (λ (q : Place). x .ended + there q) e));
+    }

@@ -1,11 +1,13 @@
 -- Laws of sums.
 use Prim.Native.Nat.{ℕ, zero, suc, _+_, _*_, _≤_, _<_}
 use mathlib.Core.Path.{_≡_, refl, sym, _∙_, ap}
+use mathlib.Core.Bool.{Bool, cond}
 use mathlib.Core.Logic.{dite}
 use native.Mathlib.Omega.{arith}
 use native.Mathlib.Decide.{decLe, decLt}
 use native.Mathlib.Nat.{add-mul}
 use Rattle.lists.specs.Total.{total}
+use Rattle.lists.specs.Count.{count}
 
 pub total-ext : (n : ℕ) (f g : ℕ → ℕ) → ((i : ℕ) → i < n → f i ≡ g i) → total n f ≡ total n g
 unfolding total
@@ -48,6 +50,12 @@ pub total-scale : (n c : ℕ) (f : ℕ → ℕ) → total n (λ i. f i * c) ≡ 
 unfolding total
 total-scale zero c f = omega arith
 total-scale (suc n) c f = rw (add-mul (total n f) (f n) c) (omega (arith, total-scale n c f))
+
+-- a sum of 1s is how many numbers pass
+pub total-count : (n : ℕ) (p : ℕ → Bool) → total n (λ i. cond (p i) 1 0) ≡ count n p
+unfolding total count
+total-count zero p = refl
+total-count (suc n) p = ap (λ (k : ℕ). k + cond (p n) 1 0) (total-count n p)
 
 -- at least 1 at each
 pub total-ones : (n : ℕ) (f : ℕ → ℕ) → ((i : ℕ) → i < n → 1 ≤ f i) → n ≤ total n f

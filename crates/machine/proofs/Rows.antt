@@ -1,4 +1,4 @@
--- What each row's job keeps from tick to tick, and what it has run and still owes.
+-- What each row's job keeps from tick to tick, and what is counted of it.
 use Prim.Native.Nat.{ℕ, zero, suc, _+_, _≤_}
 use mathlib.Core.Path.{_≡_, refl, sym, ap}
 use mathlib.Core.Bool.{Bool, true, false, cond, not, _||_}
@@ -16,7 +16,7 @@ use Rattle.chain.specs.Unit.{unitOf}
 use Rattle.chain.specs.Owed.{lensFrom}
 use Rattle.chain.specs.Good.{partOf, GoodJob}
 use Rattle.chain.proofs.Cases.{wake-cases, next-cases, unit-cases}
-use Rattle.chain.proofs.Counts.{owed, lens-none, owes-idle, lens-wake, lens-unit, wake-count, admit-count, unit-count}
+use Rattle.chain.proofs.Counts.{Counted, lens-none, lens-wake, lens-unit}
 use Rattle.chain.proofs.Keeps.{HasLeft, left-at, good-wake, good-arrival, left-enter, left-released, good-unit, left-unit}
 use Rattle.machine.specs.Tick.{serve}
 use Rattle.machine.proofs.Keep.{serve-cases}
@@ -92,10 +92,10 @@ module _ (bounds : List ℕ) (i t : ℕ) where
           section = rw (lens-unit bounds i t x j l) (s .section);
         }
 
--- what an arrival adds
-abbrev pub work : Option (List ℕ) → ℕ
-work none = 0
-work (some ls) = lensFrom 0 ls
+-- what is added where an arrival brings these lengths, or none comes
+abbrev pub added : (List ℕ → ℕ) → Option (List ℕ) → ℕ
+added adds none = 0
+added adds (some ls) = adds ls
 
 module _ (bounds : List ℕ) (i t a : ℕ) (x : Job) (s : Sound a x) where
   -- once the releases of the tick are in
@@ -108,27 +108,27 @@ module _ (bounds : List ℕ) (i t a : ℕ) (x : Job) (s : Sound a x) where
         go none e = sound-wake bounds i t a x s
         go (some ls) e = sound-arrival bounds i t a (wake bounds i t x) ls (fits ls e)
 
-    pub released-count : late bounds i t x came ≡ false → owed (released bounds i t x came) + released bounds i t x came .ran ≡ owed x + x .ran + work came
+    -- they add what an arrival adds: it comes to an idle task, or it is late
+    pub released-count : (count : Job → ℕ) (adds : List ℕ → ℕ) → Counted count adds → late bounds i t x came ≡ false → count (released bounds i t x came) ≡ count x + added adds came
     unfolding late tooSoon admit
-    released-count = go came refl
+    released-count count adds law = go came refl
       where
         idle : (b b′ : Bool) → (not b || b′) ≡ false → b ≡ true
         idle true b′ h = refl
         idle false b′ h = sym h
 
-        go : (o : Option (List ℕ)) → came ≡ o → late bounds i t x o ≡ false → owed (released bounds i t x o) + released bounds i t x o .ran ≡ owed x + x .ran + work o
-        go none e h = omega (arith, wake-count bounds i t x (s .good) (s .whole))
+        go : (o : Option (List ℕ)) → came ≡ o → late bounds i t x o ≡ false → count (released bounds i t x o) ≡ count x + added adds o
+        go none e h = omega (arith, law .woken bounds i t x (s .good) (s .whole))
         go (some ls) e h =
-            let w : Job = wake bounds i t x in
-            let none-owed : owed w ≡ 0 = owes-idle (w .lens) (w .place) (idle _ _ h) in
-            omega (arith, wake-count bounds i t x (s .good) (s .whole), none-owed, admit-count bounds i t w ls (lens-none 3 ls (omega (arith, fits ls e .three))))
+            omega (arith, law .woken bounds i t x (s .good) (s .whole), law .admitted bounds i t (wake bounds i t x) ls (idle _ _ h) (lens-none 3 ls (omega (arith, fits ls e .three))))
 
   -- after the units of the tick
   module _ (picked homes : List ℕ) where
     pub sound-serve : Sound a (serve picked bounds homes t i x)
     sound-serve = serve-cases (Sound a) picked bounds homes t i x s (λ j l e. sound-unit bounds i t a x j l e s)
 
-    pub serve-count : owed (serve picked bounds homes t i x) + serve picked bounds homes t i x .ran ≡ owed x + x .ran
-    serve-count =
-        serve-cases (λ y. owed y + y .ran ≡ owed x + x .ran) picked bounds homes t i x refl
-        (λ j l e. unit-count bounds i t x j l e (omega (arith, s .good .part, ap partOf e)) (left-at (x .place) j l (s .left) e) (s .whole))
+    -- and they change nothing that is counted
+    pub serve-count : (count : Job → ℕ) (adds : List ℕ → ℕ) → Counted count adds → count (serve picked bounds homes t i x) ≡ count x
+    serve-count count adds law =
+        serve-cases (λ y. count y ≡ count x) picked bounds homes t i x refl
+        (λ j l e. law .served bounds i t x j l e (omega (arith, s .good .part, ap partOf e)) (left-at (x .place) j l (s .left) e) (s .whole))

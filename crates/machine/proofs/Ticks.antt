@@ -1,6 +1,6 @@
--- The rows' jobs, tick after tick: what they have run and still owe is what the arrivals brought.
+-- The rows' jobs, tick after tick: what is counted of them is what the arrivals added.
 use Prim.Native.Nat.{ℕ, zero, suc, _+_, _≤_, _<_}
-use mathlib.Core.Path.{_≡_, sym, _∙_, ap}
+use mathlib.Core.Path.{_≡_, _∙_, ap}
 use mathlib.Core.Bool.{false}
 use mathlib.Core.List.{List}
 use mathlib.Core.Option.{some}
@@ -11,8 +11,7 @@ use Rattle.lists.proofs.First.{first-no}
 use Rattle.chain.specs.declared.Job.{Job}
 use Rattle.chain.specs.Job.{noJob, jobAt}
 use Rattle.chain.specs.Release.{released, late}
-use Rattle.chain.specs.Owed.{owes}
-use Rattle.chain.proofs.Counts.{owed}
+use Rattle.chain.proofs.Counts.{Counted}
 use Rattle.arrivals.specs.declared.Arrival.{Arrival}
 use Rattle.arrivals.specs.Arrival.{brings}
 use Rattle.arrivals.specs.Seek.{GoodArrivals}
@@ -20,10 +19,9 @@ use Rattle.arrivals.proofs.Seeking.{brings-fits}
 use Rattle.machine.specs.Chart.{Chart}
 use Rattle.machine.specs.Tick.{Arrivals, serve, lateRow, picked, step, jobsAt, releasedAt, lateAt}
 use Rattle.lists.specs.Total.{total}
-use Rattle.machine.specs.Counts.{tallyOf}
 use Rattle.machine.proofs.Keep.{releases-at, units-at}
-use Rattle.lists.proofs.Total.{total-ext, total-add}
-use Rattle.machine.proofs.Rows.{Sound, Fits, sound-none, work, sound-released, released-count, sound-serve, serve-count}
+use Rattle.lists.proofs.Total.{total-ext}
+use Rattle.machine.proofs.Rows.{Sound, Fits, sound-none, added, sound-released, released-count, sound-serve, serve-count}
 
 module _ (c : Chart) (ar : Arrivals) (t i : ℕ) (l : i < c .n) where
   -- row i's job once the releases of tick t are in, and after the tick
@@ -58,23 +56,22 @@ module _ (c : Chart) (periods c1s secs c2s : List ℕ) (xs : List Arrival) (good
   pub sound-mid : (t i : ℕ) → i < c .n → Sound (getD secs i 0) (jobAt (releasedAt c (brings xs) t) i)
   sound-mid t i l = sound-from t i l (sound-at t i l)
 
-  -- what a tick adds to what row i has run and still owes
-  row-step : (t i : ℕ) → i < c .n → c .n ≤ lateAt c (brings xs) t →
-      owed (jobAt (jobsAt c (brings xs) (suc t)) i) + jobAt (jobsAt c (brings xs) (suc t)) i .ran ≡ owed (jobAt (jobsAt c (brings xs) t) i) + jobAt (jobsAt c (brings xs) t) i .ran + work (brings xs i t)
-  row-step t i l h =
-      ap (λ (x : Job). owed x + x .ran) (served-at c (brings xs) t i l)
-      ∙ serve-count (c .bounds) i t (getD secs i 0) _ (sound-mid t i l) (picked c (releasedAt c (brings xs) t)) (c .homes)
-      ∙ ap (λ (x : Job). owed x + x .ran) (released-at c (brings xs) t i l)
-      ∙ released-count (c .bounds) i t (getD secs i 0) _ (sound-at t i l) (brings xs i t) (fits i t) (in-time c (brings xs) t i l h)
+  module _ (count : Job → ℕ) (adds : List ℕ → ℕ) (law : Counted count adds) where
+    -- what a tick adds to what is counted of row i
+    row-step : (t i : ℕ) → i < c .n → c .n ≤ lateAt c (brings xs) t → count (jobAt (jobsAt c (brings xs) (suc t)) i) ≡ count (jobAt (jobsAt c (brings xs) t) i) + added adds (brings xs i t)
+    row-step t i l h =
+        ap count (served-at c (brings xs) t i l)
+        ∙ serve-count (c .bounds) i t (getD secs i 0) _ (sound-mid t i l) (picked c (releasedAt c (brings xs) t)) (c .homes) count adds law
+        ∙ ap count (released-at c (brings xs) t i l)
+        ∙ released-count (c .bounds) i t (getD secs i 0) _ (sound-at t i l) (brings xs i t) (fits i t) count adds law (in-time c (brings xs) t i l h)
 
-  row-count : (e i : ℕ) → i < c .n → ((t : ℕ) → t < e → c .n ≤ lateAt c (brings xs) t) →
-      jobAt (jobsAt c (brings xs) e) i .ran + owed (jobAt (jobsAt c (brings xs) e) i) ≡ total e (λ t. work (brings xs i t))
-  unfolding jobsAt total owes
-  row-count zero i l h = ap (λ (x : Job). x .ran + owed x) (getD-blank 64 noJob i)
-  row-count (suc e) i l h = omega (arith, row-step e i l (h e (omega arith)), row-count e i l (λ t k. h t (omega arith)))
+    -- and what all ticks before tick e add
+    row-count : (e i : ℕ) → i < c .n → ((t : ℕ) → t < e → c .n ≤ lateAt c (brings xs) t) → count (jobAt (jobsAt c (brings xs) e) i) ≡ total e (λ t. added adds (brings xs i t))
+    unfolding jobsAt total
+    row-count zero i l h = ap count (getD-blank 64 noJob i) ∙ law .start
+    row-count (suc e) i l h = omega (arith, row-step e i l (h e (omega arith)), row-count e i l (λ t k. h t (omega arith)))
 
-  -- the sum over the rows
-  pub rows-count : (e : ℕ) → ((t : ℕ) → t < e → c .n ≤ lateAt c (brings xs) t) →
-      tallyOf (c .n) (jobsAt c (brings xs) e) .run + tallyOf (c .n) (jobsAt c (brings xs) e) .owed ≡ total (c .n) (λ i. total e (λ t. work (brings xs i t)))
-  unfolding tallyOf
-  rows-count e h = sym (total-add (c .n) _ _) ∙ total-ext (c .n) _ _ (λ i l. row-count e i l h)
+    -- the sum over the rows
+    pub rows-count : (e : ℕ) → ((t : ℕ) → t < e → c .n ≤ lateAt c (brings xs) t) →
+        total (c .n) (λ i. count (jobAt (jobsAt c (brings xs) e) i)) ≡ total (c .n) (λ i. total e (λ t. added adds (brings xs i t)))
+    rows-count e h = total-ext (c .n) _ _ (λ i l. row-count e i l h)

@@ -1,5 +1,5 @@
 -- What the answers of calls that are not refused come to.
-use Prim.Native.Nat.{ℕ, _+_, _*_, _<_}
+use Prim.Native.Nat.{ℕ, _+_, _*_, _≤_, _<_}
 use mathlib.Core.Path.{_≡_, refl, sym, _∙_, ap}
 use mathlib.Core.Bool.{false}
 use mathlib.Core.List.{List}
@@ -14,15 +14,17 @@ use Rattle.table.specs.Table.{readingOf}
 use Rattle.table.specs.Good.{GoodTable}
 use Rattle.table.proofs.Good.{table-good}
 use Rattle.arrivals.specs.declared.Arrival.{Arrival}
+use Rattle.arrivals.specs.Arrival.{brings}
 use Rattle.arrivals.specs.Seek.{GoodArrivals}
 use Rattle.arrivals.proofs.Good.{arrivals-good}
 use Rattle.machine.specs.Chart.{chartOf}
+use Rattle.machine.specs.Tick.{jobsAt}
 use Rattle.run.specs.Run.{Ran, isLate, log}
 use Rattle.run.specs.Answer.{runAnswer, traceAfter}
-use Rattle.run.specs.Brought.{brought, busy}
+use Rattle.run.specs.Brought.{brought, arrived, stillThere, busy}
 use Rattle.run.proofs.Accepted.{ranTo, chartIn, Accepted, run-accepted, trace-accepted}
 use Rattle.run.proofs.Window.{length-log, window-front}
-use Rattle.run.proofs.Lengths.{run-and-owed}
+use Rattle.run.proofs.Lengths.{run-and-owed, jobs-and-open}
 use Rattle.run.proofs.Units.{units-are-busy-bytes}
 use Rattle.run.proofs.Seats.{planned-seated}
 
@@ -52,6 +54,17 @@ module _ (bytes : List ℕ) (xs : List Arrival) where
     run-plus-owed =
         ap (λ (x : Ran). x .run + x .owed) (accepted .answer)
         ∙ run-and-owed (chartIn table) (table .period) (table .c1) (table .a) (table .c2) xs heard (f + w) in-time
+
+    -- the jobs ended and those that are still there are as many as the arrivals before f + w,
+    pub jobs-plus-open : runAnswer read xs f w size .jobs + stillThere (table .n) (jobsAt (chartIn table) (brings xs) (f + w)) ≡ arrived xs (f + w)
+    unfolding chartOf
+    jobs-plus-open =
+        ap (λ (x : Ran). x .jobs + stillThere (table .n) (jobsAt (chartIn table) (brings xs) (f + w))) (accepted .answer)
+        ∙ jobs-and-open (chartIn table) (table .period) (table .c1) (table .a) (table .c2) xs heard (f + w) in-time
+
+    -- so no more jobs end than have arrived
+    pub jobs-arrived : runAnswer read xs f w size .jobs ≤ arrived xs (f + w)
+    jobs-arrived = omega (arith, jobs-plus-open)
 
     -- units run are the busy bytes of all ticks that are stepped
     pub run-is-busy : runAnswer read xs f w size .run ≡ busy (log (chartIn table) xs 0 (f + w))
