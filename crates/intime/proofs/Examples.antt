@@ -1,60 +1,29 @@
 -- Two runs of case P under the theorem: one in which a section waits behind a lower-ranked one and ends, and one in which a bound is met exactly.
 use Prim.Native.Nat.{ℕ, _+_}
 use mathlib.Core.Path.{_≡_, refl}
-use mathlib.Core.Bool.{xor}
 use mathlib.Core.List.{List, [], _∷_}
 use lib.ListN.{getD}
-use Rattle.bits.specs.Bits.{bitsValue}
-use Rattle.lists.specs.Tab.{tab, blank, filled, joined}
-use Rattle.lists.specs.First.{first}
-use Rattle.lists.specs.Count.{count}
-use Rattle.lists.specs.Largest.{largest}
-use Rattle.rank.specs.Rank.{rankOf, ranksOf}
-use Rattle.rank.specs.Ceiling.{ceilingOf, ceilingsOf}
-use Rattle.rank.specs.Order.{inRank, inRows, numbersTo}
 use Rattle.table.specs.declared.Table.{Table}
-use Rattle.table.specs.Row.{outside, judged, rowOf, numberOf as rowNumberOf}
-use Rattle.table.specs.Table.{headerNumber, rowNumber, firstBad, column, ranked, tableOf, rowsReading, readingOf}
+use Rattle.table.specs.Table.{readingOf}
+use Rattle.table.proofs.Given.{PCP, P as caseP, written}
 use Rattle.table.proofs.Good.{table-good}
-use Rattle.bounds.specs.Demand.{ceil, demand}
-use Rattle.bounds.specs.Terms.{termsOn}
-use Rattle.bounds.specs.Bound.{least, boundOf as leastOf}
-use Rattle.sections.specs.Blocking.{mayBlock, blockingOf}
-use Rattle.sections.specs.Section.{sectionBound, firstMissing, sectionsOf}
-use Rattle.stages.specs.Fit.{fitOf, fitAmong, placeWith, placeAmong}
-use Rattle.stages.specs.Stage.{fitOn, placed, placeOf, firstNowhere, stagesTo, stagesOf}
-use Rattle.spread.specs.Weight.{weightOf, weightsOf, usedOf, lacksOf, heaviestOf}
-use Rattle.spread.specs.Spread.{lightestOf, loadsOf, servesOf}
 use Rattle.plan.specs.declared.Plan.{Plan}
 use Rattle.plan.specs.declared.Outcome.the-variants.{Planned}
-use Rattle.plan.specs.Tasks.{weighed, tasksOf}
-use Rattle.plan.specs.Trial.{numberOf, planBy, serves, homes, sections, stages, trialOf}
-use Rattle.plan.specs.Planning.{failures, planningOf, plannedOf}
+use Rattle.plan.specs.Planning.{plannedOf}
 use Rattle.arrivals.specs.declared.Arrival.{Arrival}
-use Rattle.arrivals.specs.Arrival.{isOf, brings}
-use Rattle.arrivals.specs.Check.{disordered, lastOf, numberAt, firstBad as firstBadArrival, heardOf}
+use Rattle.arrivals.specs.Arrival.{brings}
 use Rattle.chain.specs.declared.Place.{Place}
 use Rattle.chain.specs.declared.Place.the-variants.{Running}
-use Rattle.chain.specs.Job.{isIdle, moved}
-use Rattle.chain.specs.Release.{off, starts, enter, wakeAt, admit}
-use Rattle.chain.specs.Unit.{mark, next, unitOf}
-use Rattle.picks.specs.Best.{beat, best, every}
-use Rattle.picks.specs.Pick.{sectionOn, stageOn, chosen, waits, holds, ready, firstOn, lastOn, stageFor, clear, pick}
-use Rattle.machine.specs.Chart.{threes, topsOf, chartOf}
-use Rattle.machine.specs.Tick.{Arrivals, serveAt, releases, picked, units, step, jobsAt, releasedAt}
+use Rattle.machine.specs.Tick.{Arrivals, picked, releasedAt}
 use Rattle.run.specs.Answer.{heard}
+use Rattle.run.proofs.Given.{running}
 use Rattle.intime.specs.Demand3.{boundOf, releaseOf, InTime, Ends, after, released, machine}
 use Rattle.intime.proofs.Planned.{list-valid}
 use Rattle.intime.proofs.Theorem.{demand-3}
 
--- case P under PCP, in hex
+-- case P under PCP
 abbrev bytesP : List ℕ
-bytesP =
-    0x06 ∷ 0x30
-    ∷ 0x00 ∷ 0x00 ∷ 0xA0 ∷ 0x00 ∷ 0x01 ∷ 0x00 ∷ 0x00 ∷ 0x20 ∷ 0x00 ∷ 0x01 ∷ 0x08
-    ∷ 0x00 ∷ 0x01 ∷ 0x40 ∷ 0x00 ∷ 0x02 ∷ 0x00 ∷ 0x00 ∷ 0x30 ∷ 0x00 ∷ 0x02 ∷ 0x08
-    ∷ 0x00 ∷ 0x02 ∷ 0x80 ∷ 0x00 ∷ 0x04 ∷ 0x00 ∷ 0x00 ∷ 0x50 ∷ 0x00 ∷ 0x04 ∷ 0x10
-    ∷ []
+bytesP = written (caseP PCP)
 
 abbrev P : Table
 P = readingOf bytesP .table
@@ -101,7 +70,7 @@ record Computed : Type 0 where
   at3 : Exact (brings (two 3))
 
 computed : Computed
-unfolding bitsValue tab blank filled joined first count largest rankOf ranksOf ceilingOf ceilingsOf inRank inRows numbersTo xor outside judged rowOf rowNumberOf headerNumber rowNumber firstBad column ranked tableOf rowsReading readingOf ceil demand termsOn least leastOf mayBlock blockingOf sectionBound firstMissing sectionsOf fitOf fitAmong placeWith placeAmong fitOn placed placeOf firstNowhere stagesTo stagesOf weightOf weightsOf usedOf lacksOf heaviestOf lightestOf loadsOf servesOf weighed tasksOf numberOf planBy serves homes sections stages trialOf failures planningOf plannedOf isOf brings disordered lastOf numberAt firstBadArrival heardOf isIdle moved off starts enter wakeAt admit mark next unitOf beat best every sectionOn stageOn chosen waits holds ready firstOn lastOn stageFor clear pick threes topsOf chartOf serveAt releases picked units step jobsAt releasedAt boundOf releaseOf
+unfolding running boundOf releaseOf
 computed =
     record {
       read = refl;

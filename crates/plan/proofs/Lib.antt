@@ -2,3 +2,4 @@ pub mod Ordered
 pub mod Trials
 pub mod Covers
 pub mod Exactly
+pub mod Given

@@ -12,3 +12,4 @@ pub mod Busy
 pub mod Units
 pub mod Seats
 pub mod Totals
+pub mod Given
