@@ -1,0 +1,1 @@
+// What the statements settle: no code, only theorems about the contracts of every layer (proofs/).
