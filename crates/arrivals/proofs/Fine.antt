@@ -3,17 +3,18 @@ use Prim.Native.Nat.{ℕ, suc, _+_, _-_, _≤_, _<_}
 use mathlib.Core.Path.{_≡_, refl, sym, _∙_}
 use mathlib.Core.List.{List}
 use mathlib.Core.Logic.{dite}
-use mathlib.Core.Bool.{Bool, true, false, true≢false, cond, _&&_, _||_}
+use mathlib.Core.Bool.{Bool, true, false, cond, _||_}
 use native.Mathlib.Decide.{decLt}
 use native.Mathlib.Omega.{arith}
 use borrow.Author.Tests.{lt-ltb, le-ltb, ltb-false, lt-leb, leb-false}
 use lib.ListN.{length, getD}
 use lib.Dec.{ltb, leb}
-use Rattle.lists.proofs.First.{first-is, first-none}
+use Rattle.lists.proofs.Tests.{neither}
+use Rattle.lists.proofs.First.{first-bad, none-bad}
 use Rattle.table.specs.Row.{outside}
 use Rattle.table.proofs.Laws.{inside}
 use Rattle.arrivals.specs.Arrival.{Arrival, arrivalAt}
-use Rattle.arrivals.specs.Check.{disordered, lastOf, tooSoon, numberAt, firstBad, heardOf}
+use Rattle.arrivals.specs.Check.{disordered, lastOf, lessThanTAgo, numberAt, firstBad, heardOf}
 
 -- 15 is not given
 abbrev pub RowFine : ℕ → Arrival → Type 0
@@ -28,7 +29,7 @@ abbrev pub LengthsFine : List ℕ → List ℕ → List ℕ → Arrival → Type
 LengthsFine c1s secs c2s x = (x .len1 ≤ getD c1s (x .row - 1) 0) × (x .len2 ≤ getD secs (x .row - 1) 0) × (x .len3 ≤ getD c2s (x .row - 1) 0)
 
 -- 18 is not given
-abbrev pub PeriodFine : List ℕ → List Arrival → ℕ → Arrival → Type 0
+abbrev PeriodFine : List ℕ → List Arrival → ℕ → Arrival → Type 0
 PeriodFine periods xs k x = 0 < lastOf xs (x .row) k → lastOf xs (x .row) k + getD periods (x .row - 1) 0 ≤ suc (x .tick)
 
 -- none of 15 to 18 is given
@@ -38,18 +39,13 @@ pub record Fine (n : ℕ) (periods c1s secs c2s : List ℕ) (xs : List Arrival) 
   pub lengths : LengthsFine c1s secs c2s x
   pub period : PeriodFine periods xs k x
 
-neither : (a b : Bool) → (a || b) ≡ false → (a ≡ false) × (b ≡ false)
-neither true b e = absurd (true≢false e)
-neither false b e = (refl, e)
-
-not-both : (a b : Bool) → (a && b) ≡ false → a ≡ true → b ≡ false
-not-both a b e h = rw h at e
-
+-- a test that does not fail passes
 is-true : (b : Bool) → (b ≡ false → ⊥) → b ≡ true
 is-true true h = refl
 is-true false h = absurd (h refl)
 
 module _ (n : ℕ) (periods c1s secs c2s : List ℕ) (xs : List Arrival) (k : ℕ) (x : Arrival) (e : arrivalAt xs k ≡ x) where
+  -- the four tests, of the arrival x
   abbrev badRow : Bool
   badRow = outside (x .row) 1 n
 
@@ -60,12 +56,14 @@ module _ (n : ℕ) (periods c1s secs c2s : List ℕ) (xs : List Arrival) (k : �
   tooLong = ltb (getD c1s (x .row - 1) 0) (x .len1) || (ltb (getD secs (x .row - 1) 0) (x .len2) || ltb (getD c2s (x .row - 1) 0) (x .len3))
 
   abbrev early : Bool
-  early = tooSoon (x .tick) (lastOf xs (x .row) k) (getD periods (x .row - 1) 0)
+  early = lessThanTAgo (x .tick) (lastOf xs (x .row) k) (getD periods (x .row - 1) 0)
 
+  -- the number by the tests
   number-by : numberAt n periods c1s secs c2s xs k ≡ cond badRow 15 (cond badTick 16 (cond tooLong 17 (cond early 18 0)))
   unfolding numberAt
   number-by = rw e
 
+  -- each test fails exactly where what it looks for is fine
   row-fine : badRow ≡ false → RowFine n x
   row-fine h = inside (x .row) 1 n h
 
@@ -91,7 +89,7 @@ module _ (n : ℕ) (periods c1s secs c2s : List ℕ) (xs : List Arrival) (k : �
   fine-lengths l = rw (le-ltb _ _ (l .0), le-ltb _ _ (l .1), le-ltb _ _ (l .2))
 
   period-fine : early ≡ false → PeriodFine periods xs k x
-  period-fine h p = ltb-false _ _ (not-both _ _ h (lt-ltb _ _ p))
+  period-fine h p = ltb-false _ _ (rw (lt-ltb _ _ p) at h)
 
   fine-period : PeriodFine periods xs k x → early ≡ false
   fine-period p =
@@ -101,6 +99,7 @@ module _ (n : ℕ) (periods c1s secs c2s : List ℕ) (xs : List Arrival) (k : �
       let z : lastOf xs (x .row) k ≤ 0 = omega arith in
       rw (le-ltb _ _ z))
 
+  -- each of 15 to 18 is given where what it looks for is not fine, and all before it is
   pub number-15 : (RowFine n x → ⊥) → numberAt n periods c1s secs c2s xs k ≡ 15
   number-15 h = number-by ∙ rw (is-true badRow (λ f. h (row-fine f)))
 
@@ -113,6 +112,7 @@ module _ (n : ℕ) (periods c1s secs c2s : List ℕ) (xs : List Arrival) (k : �
   pub number-18 : RowFine n x → TickFine xs k x → LengthsFine c1s secs c2s x → (PeriodFine periods xs k x → ⊥) → numberAt n periods c1s secs c2s xs k ≡ 18
   number-18 r t l h = number-by ∙ rw (fine-row r, fine-tick t, fine-lengths l, is-true early (λ f. h (period-fine f)))
 
+  -- 0 exactly where all is fine
   pub number-none : Fine n periods c1s secs c2s xs k x → numberAt n periods c1s secs c2s xs k ≡ 0
   number-none f = number-by ∙ rw (fine-row (f .row), fine-tick (f .tick), fine-lengths (f .lengths), fine-period (f .period))
 
@@ -138,20 +138,17 @@ module _ (n : ℕ) (periods c1s secs c2s : List ℕ) (xs : List Arrival) (k : �
       go false false false false = (omega arith, λ l. omega arith)
 
 module _ (n : ℕ) (periods c1s secs c2s : List ℕ) (xs : List Arrival) where
-  passes : (k : ℕ) → numberAt n periods c1s secs c2s xs k ≡ 0 → ltb 0 (numberAt n periods c1s secs c2s xs k) ≡ false
-  passes k h = le-ltb 0 (numberAt n periods c1s secs c2s xs k) (omega arith)
-
   -- a bad arrival behind good ones is the refusal
   pub heard-bad : (k : ℕ) → k < length xs → ((j : ℕ) → j < k → numberAt n periods c1s secs c2s xs j ≡ 0) → 0 < numberAt n periods c1s secs c2s xs k →
       heardOf n periods c1s secs c2s xs ≡ record { number = numberAt n periods c1s secs c2s xs k; position = suc k }
   unfolding heardOf firstBad
   heard-bad k l good bad =
-      let e : firstBad n periods c1s secs c2s xs ≡ k = first-is (length xs) _ k l (λ j h. passes j (good j h)) (lt-ltb 0 _ bad) in
+      let e : firstBad n periods c1s secs c2s xs ≡ k = first-bad (length xs) (numberAt n periods c1s secs c2s xs) k l good bad in
       rw (e, lt-ltb k (length xs) l)
 
   -- good arrivals have none
   pub heard-none : ((k : ℕ) → k < length xs → numberAt n periods c1s secs c2s xs k ≡ 0) → heardOf n periods c1s secs c2s xs ≡ record { number = 0; position = 0 }
   unfolding heardOf firstBad
   heard-none good =
-      let e : firstBad n periods c1s secs c2s xs ≡ length xs = first-none (length xs) _ (λ j h. passes j (good j h)) in
+      let e : firstBad n periods c1s secs c2s xs ≡ length xs = none-bad (length xs) (numberAt n periods c1s secs c2s xs) good in
       rw (e, le-ltb (length xs) (length xs) (omega arith))

@@ -15,6 +15,7 @@ use Rattle.lists.proofs.Tab.{length-tab, getD-tab}
 use Rattle.arrivals.specs.Arrival.{Arrival, noArrival, arrivalAt, isOf, five, arrivalIn, arrivalsOf}
 use Rattle.arrivals.specs.Check.{disordered}
 
+-- as many arrivals as are counted
 pub length-arrivals : (flat : List ℕ) (count : ℕ) → length (arrivalsOf flat count) ≡ count
 unfolding arrivalsOf
 length-arrivals flat count = length-tab count (arrivalIn flat)
@@ -38,6 +39,7 @@ five-stores l at a =
     let e4 : at + 4 ≡ suc (suc (suc (suc at))) = omega arith in
     rw (add-one, e2, e3, e4)
 
+-- not below is at least
 not-lt : (a b : ℕ) → not (ltb a b) ≡ leb b a
 not-lt a b = dite (decLt a b) (λ h. rw (lt-ltb a b h, lt-leb b a h)) (λ h. rw (le-ltb a b (omega arith), le-leb b a (omega arith)))
 

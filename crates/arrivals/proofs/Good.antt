@@ -9,7 +9,7 @@ use native.Mathlib.Decide.{decLt}
 use borrow.Author.Tests.{ltb-true, ltb-false, eqb-true, eqb-false, not-false}
 use lib.ListN.{length, getD}
 use lib.Dec.{ltb, eqb}
-use Rattle.lists.proofs.First.{first-no, first-yes}
+use Rattle.lists.proofs.First.{first-yes, good-before}
 use Rattle.arrivals.specs.Arrival.{Arrival, arrivalAt}
 use Rattle.arrivals.specs.Check.{disordered, lastOf, numberAt, firstBad, heardOf}
 use Rattle.arrivals.specs.Seek.{keyOf, GoodArrivals}
@@ -36,12 +36,14 @@ behind-key a b r s h u v = go (ltb a b) (eqb a b) refl refl h
     go false false e f h = absurd (false≢true h)
 
 module _ (n : ℕ) (periods c1s secs c2s : List ℕ) (xs : List Arrival) where
+  -- the number of the arrival at place k, and the place of the first bad one
   abbrev number : ℕ → ℕ
   number = numberAt n periods c1s secs c2s xs
 
   abbrev bad : ℕ
   bad = firstBad n periods c1s secs c2s xs
 
+  -- the answer, by whether there is one
   abbrev picked : Bool → Heard
   picked b = cond b (record { number = number bad; position = suc bad }) (record { number = 0; position = 0 })
 
@@ -58,20 +60,21 @@ module _ (n : ℕ) (periods c1s secs c2s : List ℕ) (xs : List Arrival) where
   pub number-le : heardOf n periods c1s secs c2s xs .number ≤ 18
   number-le = ⊎-elim (λ w. omega (arith, number-range n periods c1s secs c2s xs bad (arrivalAt xs bad) refl)) (λ w. omega arith) heard-cases
 
+  -- and at least 15
   pub number-ge : 1 ≤ heardOf n periods c1s secs c2s xs .number → 15 ≤ heardOf n periods c1s secs c2s xs .number
   number-ge h = ⊎-elim (λ w. rw (w .1) (number-range n periods c1s secs c2s xs bad (arrivalAt xs bad) refl .1 (omega arith))) (λ w. absurd (omega arith)) heard-cases
 
   module _ (rows : n ≤ 64) (none : heardOf n periods c1s secs c2s xs .number ≡ 0) where
+    -- where there is none, each arrival is fine
     all-fine : (k : ℕ) → k < length xs → Fine n periods c1s secs c2s xs k (arrivalAt xs k)
     unfolding firstBad
     all-fine k l =
         ⊎-elim
         (λ w. absurd (omega (arith, ltb-true 0 (number bad) (first-yes (length xs) (λ j. ltb 0 (number j)) (w .0)))))
-        (λ w.
-        let e : ltb 0 (number k) ≡ false = first-no (length xs) (λ j. ltb 0 (number j)) k (omega arith) in
-        fine n periods c1s secs c2s xs k (arrivalAt xs k) refl (omega (arith, ltb-false 0 (number k) e)))
+        (λ w. fine n periods c1s secs c2s xs k (arrivalAt xs k) refl (good-before (length xs) number k (omega arith)))
         heard-cases
 
+    -- so each stands behind the one before it,
     in-order : (k : ℕ) → suc k < length xs → keyOf (arrivalAt xs k) < keyOf (arrivalAt xs (suc k))
     unfolding disordered
     in-order k l =
@@ -79,6 +82,7 @@ module _ (n : ℕ) (periods c1s secs c2s : List ℕ) (xs : List Arrival) where
         let s = all-fine (suc k) l .row in
         behind-key _ _ _ _ (not-false _ (all-fine (suc k) l .tick .1)) (omega arith) (s .0)
 
+    -- ticks do not fall,
     tick-le : (j k : ℕ) → j < k → k < length xs → arrivalAt xs j .tick ≤ arrivalAt xs k .tick
     tick-le j k l h =
         let r = all-fine j (omega arith) .row in
@@ -105,6 +109,7 @@ module _ (n : ℕ) (periods c1s secs c2s : List ℕ) (xs : List Arrival) where
             let p : j ≡ k = omega arith in
             absurd (eqb-false _ _ q (rw p at e)))
 
+    -- a row's arrivals are a period apart,
     row-apart : (j k i : ℕ) → j < k → k < length xs → arrivalAt xs j .row ≡ suc i → arrivalAt xs k .row ≡ suc i → arrivalAt xs j .tick + getD periods i 0 ≤ arrivalAt xs k .tick
     row-apart j k i l h d e =
         let c = last-covers j k i l (omega arith) d in
@@ -112,6 +117,7 @@ module _ (n : ℕ) (periods c1s secs c2s : List ℕ) (xs : List Arrival) where
         let s : 0 < lastOf xs (suc i) k → lastOf xs (suc i) k + getD periods i 0 ≤ suc (arrivalAt xs k .tick) = rw (q, e) at (all-fine k h .period) in
         omega (arith, s (omega arith))
 
+    -- and the list is good
     pub arrivals-good : GoodArrivals n periods c1s secs c2s xs
     arrivals-good =
         record {

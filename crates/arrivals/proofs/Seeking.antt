@@ -3,7 +3,7 @@ use Prim.Native.Nat.{ℕ, suc, _+_, _*_, _≤_, _<_, zero-le}
 use mathlib.Core.Path.{_≡_, refl}
 use mathlib.Core.List.{List}
 use mathlib.Core.Logic.{dite}
-use mathlib.Core.Bool.{Bool, true, false, true≢false, false≢true, cond, _&&_}
+use mathlib.Core.Bool.{Bool, true, false, true≢false, cond, _&&_}
 use mathlib.Core.Option.{none, some}
 use native.Mathlib.Omega.{arith}
 use native.Mathlib.Decide.{ℕ-discrete, decLt}
@@ -12,14 +12,11 @@ use borrow.Author.Tests.{ltb-true, lt-ltb, le-ltb, eqb-true, eq-eqb}
 use lib.ListN.{length, getD}
 use lib.Dec.{ltb}
 use Rattle.lists.specs.First.{first}
+use Rattle.lists.proofs.Tests.{clash, both}
 use Rattle.lists.proofs.First.{first-yes, first-is, first-none}
 use Rattle.arrivals.specs.Arrival.{Arrival, arrivalAt, lensOf, isOf, brings}
 use Rattle.arrivals.specs.Seek.{keyOf, GoodArrivals, Seek}
 use Rattle.arrivals.proofs.Good.{rises}
-
-both : (a b : Bool) → (a && b) ≡ true → (a ≡ true) × (b ≡ true)
-both true b e = (refl, e)
-both false b e = absurd (false≢true e)
 
 -- the arrival of a row at a tick is the one with that tick and row
 pub is-of : (xs : List Arrival) (i t k : ℕ) → isOf xs i t k ≡ true → (arrivalAt xs k .tick ≡ t) × (arrivalAt xs k .row ≡ suc i)
@@ -36,6 +33,7 @@ pub record Place (xs : List Arrival) (i t : ℕ) (ls : List ℕ) : Type 0 where
   pub row : arrivalAt xs place .row ≡ suc i
   pub lens : ls ≡ lensOf (arrivalAt xs place)
 
+-- what is brought has its place in the list
 pub brings-at : (xs : List Arrival) (i t : ℕ) (ls : List ℕ) → brings xs i t ≡ some ls → Place xs i t ls
 unfolding brings
 brings-at xs i t ls h = go (ltb (first (length xs) (isOf xs i t)) (length xs)) refl h
@@ -46,8 +44,7 @@ brings-at xs i t ls h = go (ltb (first (length xs) (isOf xs i t)) (length xs)) r
         let w = is-of xs i t _ (first-yes (length xs) (isOf xs i t) l) in
         record { place = first (length xs) (isOf xs i t); below = l; tick = w .0; row = w .1; lens = cc }
     go false e h =
-        let z : _≡_ {A = ℕ} 0 1 = cc in
-        absurd (omega arith)
+        clash cc
 
 -- what is brought keeps to the table, whose rows are n
 pub record Brought (n : ℕ) (c1s secs c2s : List ℕ) (i t : ℕ) (ls : List ℕ) : Type 0 where
@@ -59,6 +56,7 @@ pub record Brought (n : ℕ) (c1s secs c2s : List ℕ) (i t : ℕ) (ls : List �
   pub tick : t < 1000000
 
 module _ (n : ℕ) (periods c1s secs c2s : List ℕ) (xs : List Arrival) (good : GoodArrivals n periods c1s secs c2s xs) where
+  -- what a good list brings keeps to the table
   pub brings-fits : (i t : ℕ) (ls : List ℕ) → brings xs i t ≡ some ls → Brought n c1s secs c2s i t ls
   brings-fits i t ls h =
       let p = brings-at xs i t ls h in
@@ -73,9 +71,11 @@ module _ (n : ℕ) (periods c1s secs c2s : List ℕ) (xs : List Arrival) (good :
         tick = omega (arith, good .ticks (p .place) (p .below), p .tick);
       })
 
+  -- a good list is in order
   keys-rise : (j k : ℕ) → j < k → k < length xs → keyOf (arrivalAt xs j) < keyOf (arrivalAt xs k)
   keys-rise = rises (λ k. keyOf (arrivalAt xs k)) (length xs) (good .sorted)
 
+  -- and a row's arrivals in it are a period apart
   pub brings-apart : (i a b : ℕ) (ls ks : List ℕ) → brings xs i a ≡ some ls → brings xs i b ≡ some ks → a < b → a + getD periods i 0 ≤ b
   brings-apart i a b ls ks p q l =
       let x = brings-at xs i a ls p in
@@ -110,6 +110,7 @@ module _ (n : ℕ) (periods c1s secs c2s : List ℕ) (xs : List Arrival) (good :
             absurd (h (omega arith))
         go false e = refl
 
+    -- a run begins at the front
     pub seek-start : Seek xs 0 1
     seek-start =
         record {
@@ -118,6 +119,7 @@ module _ (n : ℕ) (periods c1s secs c2s : List ℕ) (xs : List Arrival) (good :
           ahead = λ k l h. omega (arith, good .rows k h);
         }
 
+    -- past the last row the next tick begins
     pub seek-tick : (next t : ℕ) → Seek xs next (t * 64 + suc n) → Seek xs next (suc t * 64 + 1)
     seek-tick next t s =
         record {
@@ -144,6 +146,7 @@ module _ (n : ℕ) (periods c1s secs c2s : List ℕ) (xs : List Arrival) (good :
           true≢false (rw (lt-ltb _ _ m, key-is i t next row m f) at h))
           (λ q. elsewhere k l q e)
 
+      -- so what comes to the row is what stands at the place, if it is the row's
       pub seek-comes : cond (ltb next (length xs) && isOf xs i t next) (some (lensOf (arrivalAt xs next))) none ≡ brings xs i t
       unfolding brings
       seek-comes = go (ltb next (length xs) && isOf xs i t next) refl
@@ -155,6 +158,7 @@ module _ (n : ℕ) (periods c1s secs c2s : List ℕ) (xs : List Arrival) (good :
               rw (first-is (length xs) (isOf xs i t) next l (λ j h. other i t j (elsewhere j (omega arith) (λ q. omega arith))) (w .1), w .0)
           go false e = rw (first-none (length xs) (isOf xs i t) (λ j h. other i t j (nowhere e j h)), le-ltb (length xs) (length xs) (omega arith))
 
+      -- and behind it the next row's place is known
       pub seek-next : Seek xs (next + cond (ltb next (length xs) && isOf xs i t next) 1 0) (t * 64 + suc (suc i))
       seek-next = go (ltb next (length xs) && isOf xs i t next) refl
         where

@@ -10,6 +10,7 @@ use Rattle.lists.specs.Tab.{tab, joined}
 use Rattle.lists.specs.First.{first}
 pub use Rattle.arrivals.specs.declared.Arrival.{Arrival}
 
+-- what is read past the end of a list
 abbrev pub noArrival : Arrival
 noArrival = record { tick = 0; row = 0; len1 = 0; len2 = 0; len3 = 0 }
 
@@ -17,13 +18,15 @@ noArrival = record { tick = 0; row = 0; len1 = 0; len2 = 0; len3 = 0 }
 abbrev pub arrivalAt : List Arrival → ℕ → Arrival
 arrivalAt xs k = getD xs k noArrival
 
+-- its three lengths
 abbrev pub lensOf : Arrival → List ℕ
 lensOf a = a .len1 ∷ a .len2 ∷ a .len3 ∷ []
 
--- what the arrival of row i, counted from 0, at tick t brings, if there is one
+-- the arrival at place k is the one of row i, counted from 0, at tick t
 unfoldable pub isOf : List Arrival → ℕ → ℕ → ℕ → Bool
 isOf xs i t k = eqb (arrivalAt xs k .tick) t && eqb (arrivalAt xs k .row) (suc i)
 
+-- what the arrival of row i at tick t brings, if there is one
 unfoldable pub brings : List Arrival → ℕ → ℕ → Option (List ℕ)
 brings xs i t =
     cond (ltb (first (length xs) (isOf xs i t)) (length xs))
@@ -34,6 +37,7 @@ brings xs i t =
 abbrev pub five : Arrival → List ℕ
 five a = a .tick ∷ a .row ∷ a .len1 ∷ a .len2 ∷ a .len3 ∷ []
 
+-- the arrival that the numbers have at place k
 unfoldable pub arrivalIn : List ℕ → ℕ → Arrival
 arrivalIn flat k =
     record {
@@ -44,6 +48,7 @@ arrivalIn flat k =
       len3 = getD flat (5 * k + 4) 0;
     }
 
+-- the list of arrivals that they stand for
 unfoldable pub arrivalsOf : List ℕ → ℕ → List Arrival
 arrivalsOf flat count = tab count (arrivalIn flat)
 

@@ -24,8 +24,8 @@ lastOf xs r zero = 0
 lastOf xs r (suc k) = cond (eqb (arrivalAt xs k .row) r) (suc (arrivalAt xs k .tick)) (lastOf xs r k)
 
 -- "less than T ago", where `last` is such a mark
-abbrev pub tooSoon : ℕ → ℕ → ℕ → Bool
-tooSoon tick last period = ltb 0 last && ltb (suc tick) (last + period)
+abbrev pub lessThanTAgo : ℕ → ℕ → ℕ → Bool
+lessThanTAgo tick last period = ltb 0 last && ltb (suc tick) (last + period)
 
 module _ (n : ℕ) (periods c1s secs c2s : List ℕ) (xs : List Arrival) where
   -- 15: "row not in 1 to n"
@@ -45,7 +45,7 @@ module _ (n : ℕ) (periods c1s secs c2s : List ℕ) (xs : List Arrival) where
 
   -- 18: "same row's last arrival less than T ago"
   abbrev pub early : ℕ → Bool
-  early k = tooSoon (arrivalAt xs k .tick) (lastOf xs (arrivalAt xs k .row) k) (getD periods (arrivalAt xs k .row - 1) 0)
+  early k = lessThanTAgo (arrivalAt xs k .tick) (lastOf xs (arrivalAt xs k .row) k) (getD periods (arrivalAt xs k .row - 1) 0)
 
   -- the lowest number that the arrival at place k gives, or 0
   unfoldable pub numberAt : ℕ → ℕ

@@ -3,7 +3,7 @@ ghost use mathlib.Core.Path.{_≡_};
 ghost use mathlib.Core.Bool.{_&&_, _||_};
 ghost use Prim.Native.Nat.{ℕ, suc, _+_, _-_, _*_, _<_, _≤_, min};
 ghost use lib.ListN.{length, getD};
-ghost use lib.Dec.{ltb, eqb};
+ghost use lib.Dec.{ltb};
 ghost use lib.Seq.{sets};
 ghost use Rattle.arrivals.specs.Arrival.{arrivalAt, lensOf, isOf, five, arrivalsOf, flatOf};
 ghost use Rattle.arrivals.specs.Check.{disordered as Check·disordered, lastOf, numberAt, heardOf};

@@ -10,16 +10,19 @@ use lib.Seq.{getD-append-add}
 use lib.Pow.{pow-mono}
 use Rattle.bits.specs.Bits.{bitAt, bitsValue}
 
+-- a value of w bits is below 2 ^ w
 pub bits-lt : (bs : List ℕ) (at w : ℕ) → bitsValue bs at w < 2 ^ w
 unfolding bitsValue
 bits-lt bs at zero = omega arith
 bits-lt bs at (suc w) =
     let h : bitsValue bs at w < 2 ^ w = bits-lt bs at w in rw pow-suc (omega arith)
 
+-- one bit more
 pub bits-step : (bs : List ℕ) (at w : ℕ) → bitsValue bs at (w + 1) ≡ bitsValue bs at w * 2 + bitAt bs (at + w)
 unfolding bitsValue
 bits-step bs at w = rw add-one
 
+-- at most 20 bits say a number below 2 ^ 20
 pub bits-20 : (bs : List ℕ) (at w : ℕ) → w ≤ 20 → bitsValue bs at w < 1048576
 bits-20 bs at w h =
     let a : bitsValue bs at w < 2 ^ w = bits-lt bs at w in

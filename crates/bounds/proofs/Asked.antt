@@ -13,6 +13,7 @@ use Rattle.lists.specs.Total.{total}
 use Rattle.bounds.specs.Demand.{Term, ceil, demand}
 use Rattle.bounds.specs.Terms.{termAt, termsOn, termsIn}
 
+-- a larger number has no smaller quotient
 div-mono : (p : ℕ) {a b : ℕ} → a ≤ b → a / p ≤ b / p
 div-mono zero {a} {b} h = rw (div-zero a, div-zero b) zero-le
 div-mono (suc p) {a} {b} h = le-div-iff-mul-le (zero-lt-suc p) .1 (le-trans (div-mul-le-self a (suc p)) h)
@@ -49,6 +50,7 @@ mono (x ∷ xs) {t} {u} h =
     let q : t + (x .period - 1) ≤ u + (x .period - 1) = omega arith in
     add-le-add (mul-le-mul-right (x .len) (div-mono (x .period) q)) (mono xs h)
 
+-- the demand of terms behind others is added to theirs
 pub demand-append : (xs ys : List Term) (t : ℕ) → demand (xs ++ ys) t ≡ demand xs t + demand ys t
 unfolding demand
 demand-append [] ys t = omega arith

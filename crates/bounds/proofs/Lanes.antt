@@ -21,6 +21,7 @@ module _ (ps ls : List ℕ) where
     pub few : (p : ℕ) → p < 17 → getD counts p 0 ≤ k
     pub holds : (p : ℕ) → p < 17 → lane periods lens p (getD counts p 0) ≡ termsOn ps ls homes p k
 
+  -- blank lanes hold no task
   pub lanes-none : (homes periods lens counts : List ℕ) → periods ≡ blank 1088 0 → lens ≡ blank 1088 0 → counts ≡ blank 17 0 → Lanes homes periods lens counts 0
   unfolding lane termsIn tab termsOn
   lanes-none homes periods lens counts a b c =

@@ -1,14 +1,15 @@
 -- The least bound, once for every list of terms: what is on the way up to it, and that the definition is the least time that covers.
 use Prim.Native.Nat.{ℕ, zero, suc, _+_, _≤_, _<_}
-use mathlib.Core.Path.{_≡_, refl, sym, _∙_, ap}
+use mathlib.Core.Path.{_≡_, refl, sym, ap}
 use mathlib.Core.List.{List}
-use mathlib.Core.Bool.{Bool, true, false, cond, _&&_}
+use mathlib.Core.Bool.{Bool, true, false, cond}
 use mathlib.Core.Logic.{_↔_, dite}
 use native.Mathlib.Omega.{arith}
 use native.Mathlib.Decide.{decLt}
 use borrow.Author.Tests.{lt-ltb, le-ltb, eq-eqb, ne-eqb, ltb-true, ltb-false, eqb-true}
 use lib.Dec.{ltb, eqb}
 use Rattle.lists.specs.First.{first}
+use Rattle.lists.proofs.Tests.{clash, not-both, both}
 use Rattle.lists.proofs.First.{first-no, first-yes, first-is, first-none}
 use Rattle.bounds.specs.Demand.{Term, demand}
 use Rattle.bounds.specs.Bound.{meets, least, boundOf, Least, LeastBound, isMissing, timeOf}
@@ -22,6 +23,7 @@ module _ (terms : List Term) (own : ℕ) where
     pub up : t ≤ own + demand terms t
     pub under : (u : ℕ) → own + demand terms u ≤ u → t ≤ u
 
+  -- the length and the blocking are on the way up
   pub rising-own : Rising own
   rising-own = record { up = omega arith; under = λ u e. omega arith }
 
@@ -33,19 +35,20 @@ module _ (terms : List Term) (own : ℕ) where
         under = λ u e. omega (arith, mono terms (r .under u e));
       }
 
+  -- a time that is not just what is asked for does not meet it
   meets-no : (t : ℕ) → (own + demand terms t ≡ t → ⊥) → meets terms own t ≡ false
   meets-no zero h = refl
   meets-no (suc t) h = rw (lt-ltb 0 (suc t) (omega arith), ne-eqb (own + demand terms (suc t)) (suc t) h)
 
+  -- one of at least 1 that is does
   meets-yes : (t : ℕ) → 1 ≤ t → own + demand terms t ≡ t → meets terms own t ≡ true
   meets-yes t l e = rw (lt-ltb 0 t l, eq-eqb (own + demand terms t) t e)
 
+  -- and a time that meets it is such a one
   met : (t : ℕ) → meets terms own t ≡ true → (1 ≤ t) × (own + demand terms t ≡ t)
-  met t e = go (ltb 0 t) (eqb (own + demand terms t) t) refl refl e
-    where
-      go : (a b : Bool) → ltb 0 t ≡ a → eqb (own + demand terms t) t ≡ b → (a && b) ≡ true → (1 ≤ t) × (own + demand terms t ≡ t)
-      go true b f g e = (ltb-true 0 t f, eqb-true (own + demand terms t) t (g ∙ e))
-      go false b f g e = let z : _≡_ {A = ℕ} 0 1 = cc in absurd (omega arith)
+  met t e =
+      let (a, b) = both (ltb 0 t) (eqb (own + demand terms t) t) e in
+      (ltb-true 0 t a, eqb-true (own + demand terms t) t b)
 
   -- a time on the way up that is just what is asked for is the bound
   pub least-at : (limit t : ℕ) → 1 ≤ t → t ≤ limit → Rising t → own + demand terms t ≡ t → least terms own limit ≡ At t
@@ -79,29 +82,25 @@ module _ (terms : List Term) (own : ℕ) where
       x : ℕ
       x = first (suc limit) (meets terms own)
 
-      lowest : x ≤ limit → (u : ℕ) → 1 ≤ u → own + demand terms u ≤ u → x ≤ u
-      lowest l u s c =
+      lowest : (u : ℕ) → own + demand terms u ≤ u → x ≤ u
+      lowest u c =
           let (v, k, e) = covered u u (omega arith) c in
           dite (decLt v x)
-          (λ b.
-          let no1 = first-no (suc limit) (meets terms own) v b in
-          let z : _≡_ {A = Bool} false true = sym no1 ∙ meets-yes v (omega arith) e in
-          let y : _≡_ {A = ℕ} 0 1 = cc in
-          absurd (omega arith))
+          (λ b. absurd (not-both (meets-yes v (omega arith) e) (first-no (suc limit) (meets terms own) v b)))
           (λ b. omega arith)
 
       go : (b : Bool) → ltb limit x ≡ b → cond b Missing (At x) ≡ At t → Least terms own t × (t ≤ limit)
-      go true e h = let z : _≡_ {A = ℕ} 0 1 = cc in absurd (omega arith)
+      go true e h = clash cc
       go false e h =
           let q : x ≡ t = cc in
           let l : x ≤ limit = ltb-false limit x e in
           let m = met x (first-yes (suc limit) (meets terms own) (omega arith)) in
-          rw (sym q) (record { some = m .0; same = m .1; below = lowest l }, l)
+          rw (sym q) (record { some = m .0; same = m .1; below = λ u s. lowest u }, l)
 
   -- where there is none, no time up to the limit covers what is asked for within it
-  pub least-missing : (limit : ℕ) → 1 ≤ own → least terms own limit ≡ Missing → (u : ℕ) → 1 ≤ u → u ≤ limit → own + demand terms u ≤ u → ⊥
+  pub least-missing : (limit : ℕ) → 1 ≤ own → least terms own limit ≡ Missing → (u : ℕ) → u ≤ limit → own + demand terms u ≤ u → ⊥
   unfolding least
-  least-missing limit o h u s l c = go (ltb limit (first (suc limit) (meets terms own))) refl h
+  least-missing limit o h u l c = go (ltb limit (first (suc limit) (meets terms own))) refl h
     where
       x : ℕ
       x = first (suc limit) (meets terms own)
@@ -109,18 +108,16 @@ module _ (terms : List Term) (own : ℕ) where
       go : (b : Bool) → ltb limit x ≡ b → cond b Missing (At x) ≡ Missing → ⊥
       go true e h =
           let (v, k, f) = covered u u (omega arith) c in
-          let no1 = first-no (suc limit) (meets terms own) v (omega (arith, ltb-true limit x e)) in
-          let z : _≡_ {A = Bool} false true = sym no1 ∙ meets-yes v (omega arith) f in
-          let y : _≡_ {A = ℕ} 0 1 = cc in
-          absurd (omega arith)
-      go false e h = let z : _≡_ {A = ℕ} 0 1 = cc in absurd (omega arith)
+          not-both (meets-yes v (omega arith) f) (first-no (suc limit) (meets terms own) v (omega (arith, ltb-true limit x e)))
+      go false e h = clash cc
 
 module _ (terms : List Term) (blocking limit t : ℕ) where
   -- the bound of a length of at least 1 is the least time that covers what is asked for within it
-  pub bound-is : (len : ℕ) → 1 ≤ len → boundOf terms len blocking limit ≡ At t → Least terms (len + blocking) t × (t ≤ limit)
+  bound-is : (len : ℕ) → 1 ≤ len → boundOf terms len blocking limit ≡ At t → Least terms (len + blocking) t × (t ≤ limit)
   unfolding boundOf
   bound-is len l h = least-is terms (len + blocking) limit t (omega arith) (rw (ne-eqb len 0 (λ e. omega arith)) at h)
 
+  -- a length of 0 has the bound 0
   pub bound-zero : boundOf terms 0 blocking limit ≡ At t → t ≡ 0
   unfolding boundOf
   bound-zero h = ap timeOf (sym h)
@@ -159,4 +156,4 @@ bound-there terms len blocking limit = (
     go (At t) e h =
         let (b, l) = bound-least terms blocking limit t len e in
         (t, b, l)
-    go Missing e h = let z : _≡_ {A = ℕ} 0 1 = cc in absurd (omega arith)
+    go Missing e h = clash cc

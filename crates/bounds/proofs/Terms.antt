@@ -40,6 +40,7 @@ unfolding termsOn
 on-same ps ls homes others p zero h = refl
 on-same ps ls homes others p (suc k) h = rw (on-same ps ls homes others p k (λ i l. h i (omega arith)), h k (omega arith))
 
+-- a good term behind good ones
 good-append : (xs : List Term) (x : Term) → GoodTerms xs → GoodTerm x → GoodTerms (xs ++ (x ∷ []))
 good-append xs x g h i l =
     dite (decLt i (length xs))

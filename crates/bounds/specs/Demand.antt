@@ -22,8 +22,10 @@ pub record GoodTerm (x : Term) : Type 0 where
   pub period : (1 ≤ x .period) × (x .period ≤ 1000000)
   pub short : x .len ≤ x .period
 
+-- what is read past the end of a list of terms
 abbrev pub noTerm : Term
 noTerm = record { period = 0; len = 0 }
 
+-- each of the terms is good
 abbrev pub GoodTerms : List Term → Type 0
 GoodTerms xs = (i : ℕ) → i < length xs → GoodTerm (getD xs i noTerm)

@@ -10,6 +10,7 @@ use Rattle.lists.specs.Total.{total}
 use Rattle.lists.proofs.Total.{total-add, total-ones}
 use Rattle.busy.proofs.Window.{window, by-strong, LastZero, last-zero, Quiet, at, never, quiet?}
 
+-- what is known of a level
 pub record Level (n : ℕ) : Type 1 where
   pub left : ℕ → ℕ
   pub new : ℕ → ℕ
@@ -37,9 +38,11 @@ module _ {n : ℕ} (v : Level n) where
   balance t0 zero h = rw (add-zero t0) (omega arith)
   balance t0 (suc m) h = rw (add-suc t0 m) (omega (arith, balance t0 m (omega arith), v .flow (t0 + m) (omega arith)))
 
+  -- after an own release at r with the bound d nothing of the level is left at some tick in (r, r + d]
   abbrev Done : ℕ → Type 0
   Done r = (d : ℕ) → v .Own r d → r + d ≤ n → (u : ℕ) × (r < u) × (u ≤ r + d) × (v .left u ≡ 0)
 
+  -- it is so at r, if it is so at each release before
   one : (r : ℕ) → ((m : ℕ) → m < r → Done m) → Done r
   one r earlier d o h = go (quiet? (v .left) r d)
     where

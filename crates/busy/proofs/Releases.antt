@@ -36,6 +36,7 @@ module _ (new : ℕ → ℕ) (period : ℕ) (spaced : Spaced new period) (t0 : �
   one-more n c false e (never z) = never (omega arith)
   one-more n c false e (last l m hl hr hc hm) = last l m (omega arith) hr (omega arith) hm
 
+  -- so it is of the releases that are counted
   the-last : (n : ℕ) → Last new period t0 n (total n hit)
   unfolding total
   the-last zero = never refl

@@ -14,6 +14,7 @@ below : (C : ℕ → Type 0) → ((n : ℕ) → ((m : ℕ) → m < n → C m) �
 below C f zero m h = absurd (omega arith)
 below C f (suc n) m h = f m (λ x hx. below C f n x (omega arith))
 
+-- what holds at a number if it holds below it holds at each
 pub by-strong : (C : ℕ → Type 0) → ((n : ℕ) → ((m : ℕ) → m < n → C m) → C n) → (n : ℕ) → C n
 by-strong C f n = below C f (suc n) n (omega arith)
 
@@ -24,6 +25,7 @@ pub record LastZero (f : ℕ → ℕ) (n : ℕ) : Type 0 where
   pub here : f at ≡ 0
   pub later : (t : ℕ) → at < t → t ≤ n → 1 ≤ f t
 
+-- there is one
 pub last-zero : (f : ℕ → ℕ) → f 0 ≡ 0 → (n : ℕ) → LastZero f n
 last-zero f z zero = record { at = 0; low = omega arith; here = z; later = λ t a b. absurd (omega arith) }
 last-zero f z (suc n) = go (ℕ-discrete (f (suc n)) 0) (last-zero f z n)
@@ -41,6 +43,7 @@ pub data Quiet (f : ℕ → ℕ) (t n : ℕ) : Type 0 where
   at : (u : ℕ) → t < u → u ≤ t + n → f u ≡ 0 → Quiet f t n
   never : ((u : ℕ) → t < u → u ≤ t + n → 1 ≤ f u) → Quiet f t n
 
+-- and one of the two is so
 pub quiet? : (f : ℕ → ℕ) (t n : ℕ) → Quiet f t n
 quiet? f t zero = never (λ u a b. absurd (omega arith))
 quiet? f t (suc n) = go (quiet? f t n) (ℕ-discrete (f (t + suc n)) 0)

@@ -1,1 +1,1 @@
-// The busy window: no code, only laws over functions of the tick (specs/ and proofs/).
+// The busy window: no code, only laws over functions of the tick (proofs/).

@@ -1,20 +1,19 @@
--- Before the next release of a job falls due, none changes it; and no release and no unit changes how many lengths it has.
-use Prim.Native.Nat.{ℕ, suc, _-_, _≤_, _<_}
-use mathlib.Core.Path.{_≡_, refl, ap}
+-- Before the next release of a job falls due, none changes it; and no release changes how many lengths it has.
+use Prim.Native.Nat.{ℕ, suc, _<_}
+use mathlib.Core.Path.{_≡_, refl}
 use mathlib.Core.Bool.{Bool, true, false, cond, _&&_}
 use mathlib.Core.List.{List}
 use mathlib.Core.Option.{Option, none, some}
-use native.Mathlib.Omega.{arith}
 use borrow.Author.Tests.{lt-leb}
 use lib.Dec.{ltb, leb}
 use lib.ListN.{length}
 use Rattle.chain.specs.Job.{Place, Idle, Waiting, Running, Job, moved}
 use Rattle.chain.specs.Release.{never, release, wakeAt, wake, admit, released, overdueAt, overdue, tooSoon, late, dueAt, dueOf}
-use Rattle.chain.specs.Unit.{unitOf}
-use Rattle.chain.proofs.Cases.{wake-cases, unit-cases}
+use Rattle.chain.proofs.Cases.{wake-cases}
 
 module _ (bounds : List ℕ) (i t : ℕ) (x : Job) where
   module _ (h : t < dueOf bounds i x) where
+    -- no release is due,
     wake-before : wake bounds i t x ≡ x
     unfolding wakeAt dueAt
     wake-before = go (x .place) h
@@ -24,6 +23,7 @@ module _ (bounds : List ℕ) (i t : ℕ) (x : Job) where
         go (Waiting u j) l = rw (lt-leb u t l)
         go (Running j k) l = refl
 
+    -- and no part is overdue
     overdue-before : overdue bounds i t x ≡ false
     unfolding overdueAt dueAt
     overdue-before = go (x .place) h
@@ -52,7 +52,3 @@ module _ (bounds : List ℕ) (i t : ℕ) (x : Job) where
   unfolding admit moved
   lens-released h none f = wake-cases bounds i t (λ y. length (y .lens) ≡ 3) x h (λ u j e. h)
   lens-released h (some ls) f = f ls refl
-
-  pub lens-unit : length (x .lens) ≡ 3 → (j l : ℕ) → length (unitOf bounds i t x j l .lens) ≡ 3
-  unfolding moved
-  lens-unit h j l = unit-cases bounds i t (λ y. length (y .lens) ≡ 3) x j l (λ b. h) (λ b. h)

@@ -13,6 +13,7 @@ use Rattle.chain.specs.Release.{release, starts, enter, wakeAt, wake, fr
 use Rattle.chain.specs.Unit.{running, next, unitOf}
 
 module _ (bounds : List ℕ) (i : ℕ) (Q : Place → Type 0) (a : ℕ) where
+  -- a job that enters its chain is idle, waits for a part or runs one
   pub enter-cases : (ls : List ℕ) (t n j : ℕ) → Q Idle → ((k : ℕ) → k < n + j → Q (Waiting (release bounds i a k) k)) → ((k l : ℕ) → k < n + j → Q (Running k (suc l))) → Q (enter bounds i a ls t n j)
   unfolding enter starts
   enter-cases ls t zero j e w r = e
@@ -23,6 +24,7 @@ module _ (bounds : List ℕ) (i : ℕ) (Q : Place → Type 0) (a : ℕ) where
       go true (suc l) q = r j l (omega arith)
       go false l q = w j (omega arith)
 
+  -- a part that has ended leads to the next one, or to idle
   pub next-cases : (j : ℕ) → (j < 2 → Q (Waiting (release bounds i a (suc j)) (suc j))) → (2 ≤ j → Q Idle) → Q (next bounds i a j)
   unfolding next
   next-cases j w e = go (ltb j 2) refl
@@ -32,6 +34,7 @@ module _ (bounds : List ℕ) (i : ℕ) (Q : Place → Type 0) (a : ℕ) where
       go false p = e (ltb-false j 2 p)
 
 module _ (bounds : List ℕ) (i t : ℕ) (P : Job → Type 0) (x : Job) where
+  -- due releases leave a job as it is, or take a waiting one on
   pub wake-cases : P x → ((u j : ℕ) → x .place ≡ Waiting u j → P (moved x (enter bounds i (x .arrived) (x .lens) t (3 - j) j))) → P (wake bounds i t x)
   unfolding wakeAt
   wake-cases s w = go (x .place) refl
@@ -45,11 +48,13 @@ module _ (bounds : List ℕ) (i t : ℕ) (P : Job → Type 0) (x : Job) where
       go (Waiting u j) e = due (leb u t) u j e
       go (Running j l) e = s
 
+  -- an arrival takes the job over; without one it stays
   pub admit-cases : P x → ((ls : List ℕ) → P (moved (fresh bounds i t x ls (enter bounds i t ls t 3 0)) (enter bounds i t ls t 3 0))) → (came : Option (List ℕ)) → P (admit bounds i t x came)
   unfolding admit
   admit-cases s w none = s
   admit-cases s w (some ls) = w ls
 
+  -- a unit leaves ticks of the part, or is its last
   pub unit-cases : (j l : ℕ) → (1 < l → P (running t x (Running j (l - 1)))) → (l ≤ 1 → P (moved (running t x (next bounds i (x .arrived) j)) (next bounds i (x .arrived) j))) → P (unitOf bounds i t x j l)
   unfolding unitOf
   unit-cases j l r e = go (ltb 1 l) refl

@@ -8,6 +8,7 @@ use mathlib.Core.Option.{some}
 use native.Mathlib.Omega.{arith}
 use lib.Dec.{leb}
 use lib.ListN.{getD, length}
+use Rattle.lists.proofs.Tests.{clash}
 use Rattle.chain.specs.Job.{Place, Idle, Waiting, Running, Job, noJob, isIdle, moved}
 use Rattle.chain.specs.Release.{release, starts, enter, wake, fresh, admit}
 use Rattle.chain.specs.Unit.{running, next, unitOf}
@@ -15,9 +16,11 @@ use Rattle.chain.specs.Owed.{lensFrom, owes}
 use Rattle.chain.specs.Good.{partOf, GoodJob}
 use Rattle.chain.proofs.Cases.{next-cases, wake-cases, unit-cases}
 
+-- what a job owes
 abbrev pub owed : Job → ℕ
 owed x = owes (x .lens) (x .place)
 
+-- the length of part j, and those behind it
 pub lens-step : (j : ℕ) (ls : List ℕ) → lensFrom j ls ≡ getD ls j 0 + lensFrom (suc j) ls
 unfolding lensFrom
 lens-step zero [] = refl
@@ -36,8 +39,8 @@ lens-none (suc j) (l ∷ ls) h = lens-none j ls (omega arith)
 owes-idle : (ls : List ℕ) (p : Place) → isIdle p ≡ true → owes ls p ≡ 0
 unfolding owes isIdle
 owes-idle ls Idle e = refl
-owes-idle ls (Waiting u j) e = let z : _≡_ {A = ℕ} 0 1 = cc in absurd (omega arith)
-owes-idle ls (Running j l) e = let z : _≡_ {A = ℕ} 0 1 = cc in absurd (omega arith)
+owes-idle ls (Waiting u j) e = clash cc
+owes-idle ls (Running j l) e = clash cc
 
 module _ (bounds : List ℕ) (i : ℕ) where
   -- a job that enters at part j owes the parts from there on
@@ -61,10 +64,6 @@ module _ (bounds : List ℕ) (i : ℕ) where
     pub lens-wake : wake bounds i t x .lens ≡ x .lens
     unfolding moved
     lens-wake = wake-cases bounds i t (λ y. y .lens ≡ x .lens) x refl (λ u j e. refl)
-
-    pub lens-arrival : (ls : List ℕ) → admit bounds i t x (some ls) .lens ≡ ls
-    unfolding admit moved
-    lens-arrival ls = refl
 
     pub lens-unit : (j l : ℕ) → unitOf bounds i t x j l .lens ≡ x .lens
     unfolding moved

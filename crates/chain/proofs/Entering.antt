@@ -13,16 +13,19 @@ use Rattle.chain.specs.Release.{release, starts, enter}
 
 module _ (bounds : List ℕ) (i a : ℕ) (ls : List ℕ) (t : ℕ) where
   -- where the job is from part j on
-  abbrev pub from : ℕ → Place
+  abbrev from : ℕ → Place
   from j = enter bounds i a ls t (3 - j) j
 
+  -- one part more
   from-step : (j : ℕ) → j < 3 → from j ≡ cond (leb (release bounds i a j) t) (starts bounds i j (getD ls j 0) (from (j + 1))) (Waiting (release bounds i a j) j)
   unfolding enter
   from-step j h = let e : 3 - j ≡ suc (3 - (j + 1)) = omega arith in rw (e, add-one)
 
+  -- a part that is not due is waited for
   pub from-waits : (j : ℕ) → j < 3 → t < release bounds i a j → from j ≡ Waiting (release bounds i a j) j
   from-waits j h l = rw (from-step j h, lt-leb (release bounds i a j) t l)
 
+  -- one that is due and takes time runs
   pub from-runs : (j : ℕ) → j < 3 → release bounds i a j ≤ t → 0 < getD ls j 0 → from j ≡ Running j (getD ls j 0)
   unfolding starts
   from-runs j h l p = rw (from-step j h, le-leb (release bounds i a j) t l) (go (getD ls j 0) p)

@@ -17,6 +17,7 @@ HasLeft Idle = Unit {0}
 HasLeft (Waiting u j) = Unit {0}
 HasLeft (Running j l) = 1 ≤ l
 
+-- as a fact of the part
 pub left-at : (p : Place) (j l : ℕ) → HasLeft p → p ≡ Running j l → 1 ≤ l
 left-at p j l h e = rw e at h
 
@@ -36,13 +37,16 @@ mark-le t zero h = omega arith
 mark-le t (suc b) h = h
 
 module _ (bounds : List ℕ) (i t : ℕ) where
+  -- a job that enters its chain is at one of its parts,
   part-enter : (a n j : ℕ) (ls : List ℕ) → n + j ≤ 3 → partOf (enter bounds i a ls t n j) < 3
   part-enter a n j ls m = enter-cases bounds i (λ p. partOf p < 3) a ls t n j (omega arith) (λ k h. omega arith) (λ k l h. omega arith)
 
+  -- and what it runs has ticks left
   pub left-enter : (a n j : ℕ) (ls : List ℕ) → HasLeft (enter bounds i a ls t n j)
   left-enter a n j ls = enter-cases bounds i HasLeft a ls t n j tt (λ k h. tt) (λ k l h. omega arith)
 
   module _ (x : Job) where
+    -- due releases: the job stays good, ends at most once, runs and begins nothing, and what it runs has ticks left
     pub good-wake : GoodJob x → GoodJob (wake bounds i t x)
     unfolding moved
     good-wake g =
@@ -69,6 +73,7 @@ module _ (bounds : List ℕ) (i t : ℕ) where
     unfolding admit moved
     good-arrival h ls = record { arrived = h; part = part-enter t 3 0 ls (omega arith) }
 
+    -- an arrival, or none: the same
     good-admit : t ≤ 1000000 → GoodJob x → (came : Option (List ℕ)) → GoodJob (admit bounds i t x came)
     unfolding admit
     good-admit h g none = g

@@ -10,14 +10,16 @@ use Rattle.chain.specs.Release.{off}
 use Rattle.chain.specs.Good.{GoodBounds}
 
 module _ (bounds : List ℕ) (i : ℕ) where
-  -- each part comes a bound later than the one before it, and no part before one that is ahead of it
+  -- each part comes a bound later than the one before it
   pub off-suc : (j : ℕ) → off bounds i (suc j) ≡ off bounds i j + getD bounds (3 * i + j) 0
   unfolding off
   off-suc j = refl
 
+  -- the same, as a loop counts
   pub off-more : (j : ℕ) → off bounds i (j + 1) ≡ off bounds i j + getD bounds (3 * i + j) 0
   off-more j = rw add-one (off-suc j)
 
+  -- no part comes before one that is ahead of it
   pub off-le : (j e : ℕ) → j ≤ e → off bounds i j ≤ off bounds i e
   unfolding off
   off-le j zero h = let q : j ≡ 0 = omega arith in omega (arith, ap (off bounds i) q)

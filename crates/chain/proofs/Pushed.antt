@@ -1,6 +1,6 @@
 -- Units run together are the same units one by one.
 use Prim.Native.Nat.{ℕ, zero, suc, _+_, _-_, _≤_, _<_}
-use mathlib.Core.Path.{_≡_, refl, sym, _∙_, ap}
+use mathlib.Core.Path.{_≡_, refl, sym, ap}
 use mathlib.Core.List.{List}
 use native.Mathlib.Omega.{arith}
 use native.Mathlib.Nat.{add-zero, sub-zero}
@@ -16,6 +16,7 @@ unfolding mark
 mark-stays t zero h = absurd (h refl)
 mark-stays t (suc b) h = refl
 
+-- a mark that is set stays
 mark-again : (t u b : ℕ) → mark u (mark t b) ≡ mark t b
 unfolding mark
 mark-again t u zero = refl
@@ -65,6 +66,7 @@ push-cases P t k x same runs = go k refl (x .place) refl
     go (suc m) d (Running j l) e = runs m j l d e
 
 module _ (t k : ℕ) (x : Job) where
+  -- a job that is pushed stays good, ends nothing, runs at most k units, and keeps its lengths
   pub good-push : GoodJob x → GoodJob (push t k x)
   unfolding pushed
   good-push g = push-cases GoodJob t k x g (λ m j l d e. record { arrived = g .arrived; part = rw (ap partOf e) at (g .part) })

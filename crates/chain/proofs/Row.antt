@@ -11,6 +11,7 @@ use native.Mathlib.Omega.{arith}
 use borrow.Author.Tests.{leb-true, leb-false, le-leb, lt-leb, eqb-true, eq-eqb, ne-eqb}
 use lib.ListN.{getD}
 use lib.Dec.{eqb, ltb, leb}
+use Rattle.lists.proofs.Tests.{clash}
 use Rattle.chain.specs.declared.Place.{Place}
 use Rattle.chain.specs.declared.Place.the-variants.{Idle, Waiting, Running}
 use Rattle.chain.specs.declared.Job.{Job}
@@ -39,7 +40,7 @@ pub left-own : (j l : ℕ) → left (Running j l) j ≡ l
 unfolding left
 left-own j l = rw (eq-eqb j j refl)
 
-pub left-other : (e l j : ℕ) → (e ≡ j → ⊥) → left (Running e l) j ≡ 0
+left-other : (e l j : ℕ) → (e ≡ j → ⊥) → left (Running e l) j ≡ 0
 unfolding left
 left-other e l j h = rw (ne-eqb e j h)
 
@@ -85,6 +86,7 @@ module _ (bounds : List ℕ) (i : ℕ) where
       nothing : new j t ≡ 0 → New j t
       something : (a : ℕ) (ls : List ℕ) → ar a ≡ some ls → a + off bounds i j ≡ t → new j t ≡ getD ls j 0 → New j t
 
+    -- one of the two is so
     pub new? : (j t : ℕ) → New j t
     unfolding new lenIn
     new? j t = go (leb (off bounds i j) t) refl (ar (t - off bounds i j)) refl
@@ -99,19 +101,22 @@ module _ (bounds : List ℕ) (i : ℕ) where
     new-none j t h = elim (new? j t) [ nothing e ↦ e | something a ls e q r ↦ r ∙ h a ls e q ]
 
     -- the job is of the last arrival before tick t
-    abbrev pub Last : ℕ → ℕ → Type 0
+    abbrev Last : ℕ → ℕ → Type 0
     Last t a = (b : ℕ) (ks : List ℕ) → ar b ≡ some ks → b < t → b ≤ a
 
+    -- the job of the last arrival, before tick t
     pub record Live (t : ℕ) (x : Job) : Type 0 where
       pub came : ar (x .arrived) ≡ some (x .lens)
       pub past : x .arrived < t
       pub last : Last t (x .arrived)
 
+    -- an idle task: every part of every job is past
     pub record IsIdle (t : ℕ) (x : Job) : Type 0 where
       pub unbegun : x .begun ≡ 0
       pub last : Last t (x .arrived)
       pub all-past : (a : ℕ) (ls : List ℕ) → ar a ≡ some ls → a < t → (j : ℕ) → j < 3 → a + off bounds i j < t
 
+    -- a task that waits until u for part j
     pub record IsWaiting (t : ℕ) (x : Job) (u j : ℕ) : Type 0 where
       pub live : Live t x
       pub unbegun : x .begun ≡ 0
@@ -120,6 +125,7 @@ module _ (bounds : List ℕ) (i : ℕ) where
       pub inside : j < 3
       pub before : (e : ℕ) → e < j → x .arrived + off bounds i e < t
 
+    -- a task that runs part j, with l ticks left
     pub record IsRunning (t : ℕ) (x : Job) (j l : ℕ) : Type 0 where
       pub live : Live t x
       pub since : x .arrived + off bounds i j < t
@@ -174,9 +180,9 @@ module _ (bounds : List ℕ) (i : ℕ) where
     not-running t x h j l = go (x .place) h
       where
         go : (p : Place) → isIdle (wake bounds i t (in-place x p) .place) ≡ true → p ≡ Running j l → ⊥
-        go Idle h e = let w : _≡_ {A = ℕ} 0 1 = cc in omega arith
-        go (Waiting u d) h e = let w : _≡_ {A = ℕ} 0 1 = cc in omega arith
-        go (Running d k) h e = let w : _≡_ {A = ℕ} 0 1 = cc in omega arith
+        go Idle h e = clash cc
+        go (Waiting u d) h e = clash cc
+        go (Running d k) h e = clash cc
 
     -- whether a job is live is a matter of its arrival alone
     same-live : (t : ℕ) (x y : Job) → y .arrived ≡ x .arrived → y .lens ≡ x .lens → Live t x → Live t y
@@ -197,7 +203,7 @@ module _ (bounds : List ℕ) (i : ℕ) where
       off-top j h = le-trans (off-le bounds i j 3 h) (fit .sum)
 
       -- a part that takes time has a bound
-      pub gap : (j a : ℕ) (ls : List ℕ) → j < 3 → ar a ≡ some ls → 1 ≤ getD ls j 0 → off bounds i j < off bounds i (suc j)
+      gap : (j a : ℕ) (ls : List ℕ) → j < 3 → ar a ≡ some ls → 1 ≤ getD ls j 0 → off bounds i j < off bounds i (suc j)
       gap j a ls hj e p = omega (arith, off-suc bounds i j, fit .timed j hj (omega (arith, fit .lengths a ls e j hj)))
 
       -- only the last job releases anything: each one before it has come to its end
@@ -311,13 +317,14 @@ module _ (bounds : List ℕ) (i : ℕ) where
       module _ (t : ℕ) (quiet : ar t ≡ none) where
         -- what came up to the tick came before it
         came-before : (b : ℕ) (ks : List ℕ) → ar b ≡ some ks → b < suc t → b < t
-        came-before b ks e h = elim (ℕ-discrete b t) [ yes q ↦ let w : _≡_ {A = ℕ} 0 1 = cc in absurd (omega arith) | no q ↦ omega arith ]
+        came-before b ks e h = elim (ℕ-discrete b t) [ yes q ↦ clash cc | no q ↦ omega arith ]
 
         module _ (x : Job) where
           -- the job stays fine where it is, and nothing is released but the part that it waits for
           live-on : Live t x → Live (suc t) x
           live-on v = record { came = v .came; past = omega arith; last = λ b ks e h. v .last b ks e (came-before b ks e h) }
 
+          -- an idle task stays so, and nothing of it is released;
           idle-on : IsIdle t x → IsIdle (suc t) x
           idle-on f =
               record {
@@ -329,6 +336,7 @@ module _ (bounds : List ℕ) (i : ℕ) where
           idle-new : IsIdle t x → (j : ℕ) → j < 3 → new j t ≡ 0
           idle-new f j hj = new-none j t (λ b ks e q. absurd (omega (arith, f .all-past b ks e (came-before b ks e (omega arith)) j hj)))
 
+          -- one that waits does, up to its tick;
           waiting-on : (u j : ℕ) → IsWaiting t x u j → t < u → IsWaiting (suc t) x u j
           waiting-on u j f ahead =
               record {
@@ -348,6 +356,7 @@ module _ (bounds : List ℕ) (i : ℕ) where
           waiting-new : (u j : ℕ) → IsWaiting t x u j → t < u → (e : ℕ) → e < 3 → new e t ≡ 0
           waiting-new u j f ahead = new-ahead t x (live-on (f .live)) j (omega arith) (waiting-past u j f)
 
+          -- and so does one that runs
           running-on : (j l : ℕ) → IsRunning t x j l → IsRunning (suc t) x j l
           running-on j l f =
               record {
@@ -413,7 +422,7 @@ module _ (bounds : List ℕ) (i : ℕ) where
           let v : Live (suc t) y = same-live (suc t) x y refl refl (live-on t quiet x (f .live)) in
           let over : (e : ℕ) → e < j → (x .arrived + off bounds i e ≤ t) × (new e t ≡ 0) = λ e he. (omega (arith, f .before e he), waiting-past t quiet x u j f e he) in
           enters-on t x y none quiet (ap (wakeAt bounds i t x) at ∙ rw (le-leb u t due)) refl
-          (λ d l q. let w : _≡_ {A = ℕ} 0 1 = cc in omega arith) refl
+          (λ d l q. clash cc) refl
           (enter-ok t y v refl (3 - j) j (omega arith) (omega arith) over)
 
       -- where the period is over, the parts from j on are due and of length 0
@@ -514,5 +523,6 @@ module _ (bounds : List ℕ) (i : ℕ) where
           ends : (p : Place) → ((e : ℕ) → left p e ≡ 0) → Fine (suc t) (after p) p → Ran t x j l (after p)
           ends p none-left g = record { fine = g; own = omega (arith, none-left j); others = λ e d. none-left e; begins = inl refl; same = refl }
 
+      -- so a unit of a part that is within its bound leaves the job fine
       pub unit-ok : (t : ℕ) (x : Job) (j l : ℕ) → IsRunning (suc t) x j l → t < x .arrived + off bounds i (suc j) → Ran t x j l (unitOf bounds i t x j l)
       unit-ok t x j l f s = unit-cases bounds i t (Ran t x j l) x j l (unit-on t x j l f) (unit-last t x j l f s)

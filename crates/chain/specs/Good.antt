@@ -1,5 +1,5 @@
 -- What keeps the numbers of a job within 32 bits.
-use Prim.Native.Nat.{ℕ, _+_, _*_, _≤_, _<_}
+use Prim.Native.Nat.{ℕ, _*_, _≤_, _<_}
 use mathlib.Core.List.{List}
 use mathlib.Core.Path.{_≡_}
 use lib.ListN.{getD, length}
@@ -16,6 +16,7 @@ partOf Idle = 0
 partOf (Waiting u j) = j
 partOf (Running j l) = j
 
+-- a job that arrived in one of a million ticks, and is at one of its three parts
 pub record GoodJob (x : Job) : Type 0 where
   pub arrived : x .arrived ≤ 1000000
   pub part : partOf (x .place) < 3

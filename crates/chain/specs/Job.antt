@@ -16,6 +16,7 @@ noJob = record { place = Idle; arrived = 0; lens = 0 ∷ 0 ∷ 0 ∷ []; begun =
 abbrev pub jobAt : List Job → ℕ → Job
 jobAt js i = getD js i noJob
 
+-- the task is idle
 unfoldable pub isIdle : Place → Bool
 isIdle Idle = true
 isIdle (Waiting u j) = false

@@ -9,6 +9,7 @@ lensFrom j [] = 0
 lensFrom zero (l ∷ ls) = l + lensFrom zero ls
 lensFrom (suc j) (l ∷ ls) = lensFrom j ls
 
+-- what a job with these lengths owes in its place
 unfoldable pub owes : List ℕ → Place → ℕ
 owes ls Idle = 0
 owes ls (Waiting u j) = lensFrom j ls

@@ -1,6 +1,6 @@
 -- Releases of row i. A bound stands for each part of each row, three to a row.
 use Prim.Native.Nat.{ℕ, zero, suc, _+_, _-_, _*_}
-use mathlib.Core.Bool.{Bool, true, false, cond, not, _&&_, _||_}
+use mathlib.Core.Bool.{Bool, false, cond, not, _&&_, _||_}
 use mathlib.Core.List.{List}
 use mathlib.Core.Option.{Option, none, some}
 use lib.ListN.{getD}
@@ -70,6 +70,7 @@ module _ (bounds : List ℕ) (i : ℕ) where
   tooSoon x none = false
   tooSoon x (some ls) = not (isIdle (x .place))
 
+  -- 19 is given for the row in tick t
   unfoldable pub late : ℕ → Job → Option (List ℕ) → Bool
   late t x came = tooSoon (wake t x) came || overdue t (released t x came)
 

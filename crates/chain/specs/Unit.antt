@@ -1,6 +1,6 @@
 -- One unit of row i.
-use Prim.Native.Nat.{ℕ, zero, suc, _+_, _-_, _*_}
-use mathlib.Core.Bool.{Bool, cond}
+use Prim.Native.Nat.{ℕ, zero, suc, _+_, _-_}
+use mathlib.Core.Bool.{cond}
 use mathlib.Core.List.{List}
 use lib.Dec.{ltb}
 use Rattle.chain.specs.Job.{Place, Idle, Waiting, Running, Job, moved}
@@ -44,6 +44,7 @@ pushed t (suc k) x j l =
       ran = x .ran + suc k;
     }
 
+-- the same of a job in its place: one that runs no part stays as it is
 unfoldable pub pushAt : ℕ → ℕ → Job → Place → Job
 pushAt t k x Idle = x
 pushAt t k x (Waiting u j) = x

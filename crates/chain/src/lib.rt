@@ -1,8 +1,8 @@
 // A task's place in its chain: releases, one unit of work, and what is still owed.
 ghost use mathlib.Core.Path.{_≡_};
-ghost use mathlib.Core.Bool.{Bool, cond};
+ghost use mathlib.Core.Bool.{cond};
 ghost use mathlib.Core.Option.{some, none};
-ghost use Prim.Native.Nat.{ℕ, _+_, _-_, _*_, _<_, _≤_};
+ghost use Prim.Native.Nat.{_+_, _-_, _*_, _<_, _≤_};
 ghost use Rattle.chain.specs.Job.{moved as Job·moved, isIdle};
 ghost use Rattle.chain.specs.Release.{release, enter as Release·enter, wake as Release·wake, admit as Release·admit, overdue as Release·overdue, released, late, dueOf};
 ghost use Rattle.chain.specs.Unit.{mark as Unit·mark, response as Unit·response, next as Unit·next, running as Unit·running, unitOf, push as Unit·push};

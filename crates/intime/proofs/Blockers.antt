@@ -24,7 +24,7 @@ use Rattle.intime.proofs.Ticks.{Ok, Picked, picks-in, lens-le, mid-runn
 use Rattle.intime.proofs.Levels.{leftAt, newAt, ranAt, empty, flow, Work, pend, level-unit, Own, own-long, own-apart, own-some, own-covers, own-left}
 
 -- 1 where the row that runs, numbered from 1, is ranked below k
-unfoldable pub outside : System → ℕ → ℕ → ℕ
+outside : System → ℕ → ℕ → ℕ
 outside s k zero = 0
 outside s k (suc x) = cond (ltb (rank s k) (rank s x)) 1 0
 
@@ -113,11 +113,11 @@ module _ (s : System) (n : ℕ) (oks : (t : ℕ) → t < n → Ok s t) (q k : �
             omega (arith, level-unit s n oks false q k hk t ht x (z .part) (z .rest) hx (z .at) (z .stage) (z .on) (omega (arith, w .better)) e)
 
   -- stages: what runs while the level has work is of the level
-  pub stages : Level n
+  stages : Level n
   stages = level false (λ t. 0) stage-works (λ r d o t0 m le st. omega (arith, total-zero m (λ j. 0) (λ j l. refl)))
 
   -- sections: it is of the level, or a begun section ranked below k whose ceiling is at or above k's rank
-  pub data Who (t : ℕ) : Type 0 where
+  data Who (t : ℕ) : Type 0 where
     member : outside s k (runner s t q) ≡ 0 → 1 ≤ ranAt s true q (rank s k) t → Who t
     blocker : (x : ℕ) → x < count s → runner s t q ≡ suc x → Section (homes s) q x (mid s t x) → 1 ≤ mid s t x .begun
         → rank s k < rank s x → top-of s x ≤ rank s k → Who t
@@ -221,7 +221,7 @@ module _ (s : System) (n : ℕ) (oks : (t : ℕ) → t < n → Ok s t) (q k : �
           subst (Fine (s .chart .bounds) x (s .ar x) t (job s t x)) (z .at) (oks t ht .fine x hx) in
           let spent = f .spent b in
           let le = lens-le s t x 1 (z .rest) (job s t x) hx f in
-          omega (arith, s .room k x hk hx (omega arith) worse (z .on ∙ sym there) high)
+          omega (arith, s .room k x hk hx worse (z .on ∙ sym there) high)
 
   -- hence it is so all through a window in which the level has work
   owes : home (homes s) k 1 ≡ q → (t0 m : ℕ) → t0 < n → t0 + m ≤ n → ((j : ℕ) → j < m → Busy s true q k (t0 + j))
@@ -239,7 +239,7 @@ module _ (s : System) (n : ℕ) (oks : (t : ℕ) → t < n → Ok s t) (q k : �
   budget t0 (suc m) le there st = owes there t0 (suc m) (omega arith) le st .so-far
 
   -- sections: what else runs while the level has work is at most the blocking term
-  pub sections : Level n
+  sections : Level n
   sections = level true (λ t. outside s k (runner s t q)) section-works (λ r d o t0 m le. budget t0 m le (here o))
     where
       here : {r d : ℕ} → Own s n oks true q k hk r d → home (homes s) k 1 ≡ q

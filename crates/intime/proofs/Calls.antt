@@ -104,8 +104,10 @@ module _ (bs : List ℕ) (xs : List Arrival) (f w size : ℕ) where
       (λ h. refusal _ _ _ (omega (arith, table-le bs)))
       (λ h. tried (omega arith) (plannedOf t .outcome) refl)
 
+-- no worst response that a call returns is above the plan's bound,
 pub responses : Responses
 responses bs xs f w size = answered bs xs f w size .worst-le
 
+-- and 19 is never given
 pub never-19 : Never19
 never-19 bs xs f w size e = omega (arith, answered bs xs f w size .number-le)

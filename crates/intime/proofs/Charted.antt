@@ -123,6 +123,7 @@ module _ (t : Table) (p : Plan) (g : GoodTable t) where
   unfolding chartOf lenOf
   own-top i hi long = top-user i i hi hi (names-resource t g i hi long) refl
 
+  -- a period is at least 1
   pub period-some : (i : ℕ) → i < chartOf t p .n → 1 ≤ getD (t .period) i 0
   unfolding chartOf
   period-some i hi = g .tasks i hi .period .0
@@ -132,10 +133,12 @@ module _ (t : Table) (p : Plan) (g : GoodTable t) where
   unfolding chartOf
   rank-lt i hi = at-lt (t .period) (t .rank) (t .n) (g .rows .1) (g .ranks) i hi
 
+  -- the row of a rank has that rank,
   pub row-at : (r : ℕ) → r < chartOf t p .n → (row r < chartOf t p .n) × (getD (chartOf t p .rank) (row r) 0 ≡ r)
   unfolding chartOf
   row-at r hr = rank-of-row (t .period) (t .rank) (t .n) (g .rows .1) (g .ranks) r hr
 
+  -- and the row of a row's rank is that row
   pub row-back : (i : ℕ) → i < chartOf t p .n → row (getD (chartOf t p .rank) i 0) ≡ i
   unfolding chartOf
   row-back i hi = row-of-rank (t .period) (t .rank) (t .n) (g .rows .1) (g .ranks) i hi
@@ -217,10 +220,10 @@ module _ (t : Table) (p : Plan) (g : GoodTable t) where
       go false h = le-leb (ceiling i) (rank k) h
 
   -- so it is no longer than the blocking of k and one unit more
-  pub room : (k i : ℕ) → k < chartOf t p .n → i < chartOf t p .n → 1 ≤ lenOf t i 1 → getD (chartOf t p .rank) k 0 < getD (chartOf t p .rank) i 0
+  pub room : (k i : ℕ) → k < chartOf t p .n → i < chartOf t p .n → getD (chartOf t p .rank) k 0 < getD (chartOf t p .rank) i 0
       → home homes i 1 ≡ home homes k 1 → getD (chartOf t p .top) i 0 ≤ getD (chartOf t p .rank) k 0 → lenOf t i 1 ≤ blocking t p (rank k) + 1
   unfolding chartOf lenOf blocking
-  room k i hk hi long lower same high =
+  room k i hk hi lower same high =
       let own = at-rank (t .period) (t .rank) (t .n) (g .rows .1) (g .ranks) (t .a) i hi in
       let may = may-block k i hk hi lower same high in
       let covered = blocking-covers (t .npp) (byRank t (t .a)) tops (sectionHomes t p) (rank k) (t .n) (rank i) (rank-lt i hi) may in

@@ -2,7 +2,7 @@
 use Prim.Native.Nat.{ℕ, zero, suc, _+_, _*_, _≤_, _<_, max}
 use mathlib.Core.Path.{_≡_, refl, ap, _∙_, subst}
 use mathlib.Core.Bool.{Bool, true, false, cond}
-use mathlib.Core.List.{List, []}
+use mathlib.Core.List.{List}
 use mathlib.Core.Logic.{_⊎_, inl, inr}
 use mathlib.Core.Option.{some}
 use native.Mathlib.Decide.{decLe, ℕ-discrete}
@@ -31,7 +31,7 @@ use Rattle.intime.proofs.Induction.{always}
 
 module _ (s : System) where
   -- the tick at which part j of row i's job that arrived at a is released
-  abbrev pub at-tick : ℕ → ℕ → ℕ → ℕ
+  abbrev at-tick : ℕ → ℕ → ℕ → ℕ
   at-tick i a j = a + off (s .chart .bounds) i j
 
   -- no row is late in any tick
@@ -78,7 +78,7 @@ module _ (s : System) where
       omega (arith, off-suc (s .chart .bounds) i j)
 
   -- a tick of the part's bound in which its last unit runs
-  abbrev pub LastUnit : ℕ → ℕ → ℕ → Type 0
+  abbrev LastUnit : ℕ → ℕ → ℕ → Type 0
   LastUnit i a j =
       (t : ℕ) × (at-tick i a j ≤ t) × (t < at-tick i a j + bound s i j) × (mid s t i .arrived ≡ a) × (mid s t i .place ≡ Running j 1) × (runner s t (home (homes s) i j) ≡ suc i)
 
@@ -115,8 +115,8 @@ module _ (s : System) where
       unit-from i a j (bound s i j) (at-tick i a j) (getD ls j 0) hi (omega arith) (omega arith) w e
 
   -- from its release and its bound on, a part has ended
-  pub behind : (i a j t : ℕ) (ls : List ℕ) → i < count s → j < 3 → s .ar i a ≡ some ls → at-tick i a j + bound s i j ≤ t → Ended (mid s t i) a j
-  behind i a j t ls hi hj came le =
+  pub behind : (i a j t : ℕ) (ls : List ℕ) → i < count s → s .ar i a ≡ some ls → at-tick i a j + bound s i j ≤ t → Ended (mid s t i) a j
+  behind i a j t ls hi came le =
       let r = release s t (always s t) i hi in
       let (old, past) = go (mid s t i .place) (r .fine) (r .soon) in
       elim (ℕ-discrete (mid s t i .arrived) a) [ yes e ↦ inr (e, past e) | no d ↦ inl (omega arith) ]
@@ -171,8 +171,8 @@ module _ (s : System) where
   worst-within (suc t) = notes-within t (s .chart .m) (worstAt (s .chart) (s .ar) t) (worst-within t)
 
   -- every worst response is at most the bound
-  pub worst-le : (t i j : ℕ) → i < count s → j < 3 → getD (worstAt (s .chart) (s .ar) t) (3 * i + j) 0 ≤ bound s i j
-  worst-le t i j hi hj = worst-within t (3 * i + j)
+  pub worst-le : (t i j : ℕ) → getD (worstAt (s .chart) (s .ar) t) (3 * i + j) 0 ≤ bound s i j
+  worst-le t i j = worst-within t (3 * i + j)
 
   -- of two begun sections on a processor, one is ranked above the ceiling of the other
   pub two-begun : (t q i k : ℕ) → i < count s → k < count s → Section (homes s) q i (job s t i) → Section (homes s) q k (job s t k) → 1 ≤ job s t i .begun → 1 ≤ job s t k .begun

@@ -25,6 +25,7 @@ use Rattle.intime.proofs.Theorem.{demand-3}
 abbrev bytesP : List ℕ
 bytesP = written (caseP PCP)
 
+-- case P, and its plan
 abbrev P : Table
 P = readingOf bytesP .table
 
@@ -69,6 +70,7 @@ record Computed : Type 0 where
   at4 : Waited (brings (two 4))
   at3 : Exact (brings (two 3))
 
+-- all of it is computed
 computed : Computed
 unfolding running boundOf releaseOf
 computed =
@@ -96,8 +98,10 @@ under tick good =
     demand-3 bytesP (computed .read) (computed .planned) (brings (two tick))
     (list-valid P (table-good bytesP (readingOf bytesP) refl (computed .read)) (two tick) good)
 
+-- the theorem holds of both runs, and in the first a section waits,
 pub waited : InTime P planP (brings (two 4)) × Waited (brings (two 4))
 waited = (under 4 (computed .heard4), computed .at4)
 
+-- in the second a bound is met exactly
 pub exact : InTime P planP (brings (two 3)) × Exact (brings (two 3))
 exact = (under 3 (computed .heard3), computed .at3)

@@ -26,7 +26,7 @@ module _ (s : System) where
   start-is i = getD-blank 64 noJob i
 
   -- all are idle
-  pub start-ok : Ok s 0
+  start-ok : Ok s 0
   start-ok =
       record {
         fine = λ i hi. subst (λ (x : Job). Fine (s .chart .bounds) i (s .ar i) 0 x (x .place)) (sym (start-is i))

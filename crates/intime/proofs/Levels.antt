@@ -9,6 +9,7 @@ use native.Mathlib.Omega.{arith}
 use borrow.Author.Tests.{eqb-true, eq-eqb}
 use lib.Dec.{eqb}
 use Rattle.lists.specs.Total.{total}
+use Rattle.lists.proofs.Tests.{both}
 use Rattle.lists.proofs.Total.{total-zero, total-spike}
 use Rattle.lists.proofs.Tab.{getD-blank}
 use Rattle.bounds.specs.Demand.{ceil}
@@ -18,7 +19,6 @@ use Rattle.chain.specs.declared.Job.{Job}
 use Rattle.chain.specs.Job.{noJob}
 use Rattle.chain.proofs.Row.{left, left-running, new, new-at}
 use Rattle.picks.specs.Pick.{isSection, home}
-use Rattle.picks.proofs.Bests.{and-both}
 use Rattle.machine.specs.Tick.{jobsAt}
 use Rattle.intime.proofs.Releases.{Release, Order, same, before, after, is-release, order, long, new-le, new-ceil}
 use Rattle.intime.proofs.System.{System, on, sum, count, homes, rank, bound, job, mid, runner}
@@ -27,7 +27,7 @@ use Rattle.intime.proofs.Sums.{sum-mono, sum-part, sum-either, sum-last
 
 -- the sum over the level of the task of rank k: f of its parts of the kind on processor q, and of those of the better-ranked tasks
 module _ (s : System) (section : Bool) (q : ℕ) where
-  abbrev pub levelSum : ℕ → (ℕ → ℕ → ℕ) → ℕ
+  abbrev levelSum : ℕ → (ℕ → ℕ → ℕ) → ℕ
   levelSum k f = sum (suc k) (λ r j. cond (on (homes s) section q (s .row r) j) (f (s .row r) j) 0)
 
   -- what is released of a part of the kind, there, in a tick
@@ -57,10 +57,10 @@ module _ (s : System) (section : Bool) (q k : ℕ) where
       idle r j false = refl
 
 -- the kind and the processor of a part
-pub on-told : (hs : List ℕ) (section : Bool) (q i j : ℕ) → on hs section q i j ≡ true → (isSection j ≡ section) × (home hs i j ≡ q)
+on-told : (hs : List ℕ) (section : Bool) (q i j : ℕ) → on hs section q i j ≡ true → (isSection j ≡ section) × (home hs i j ≡ q)
 unfolding on
 on-told hs section q i j h =
-    let (a, b) = and-both (cond section (isSection j) (not (isSection j))) (eqb (home hs i j) q) h in
+    let (a, b) = both (cond section (isSection j) (not (isSection j))) (eqb (home hs i j) q) h in
     (kind section (isSection j) a, eqb-true (home hs i j) q b)
   where
     kind : (c b : Bool) → cond c b (not b) ≡ true → b ≡ c
@@ -68,7 +68,7 @@ on-told hs section q i j h =
     kind false true e = sym e
     kind false false e = refl
 
-pub told-on : (hs : List ℕ) (section : Bool) (q i j : ℕ) → isSection j ≡ section → home hs i j ≡ q → on hs section q i j ≡ true
+told-on : (hs : List ℕ) (section : Bool) (q i j : ℕ) → isSection j ≡ section → home hs i j ≡ q → on hs section q i j ≡ true
 unfolding on
 told-on hs section q i j e f = rw (e, eq-eqb (home hs i j) q f) (kind section)
   where
@@ -149,6 +149,7 @@ module _ (s : System) (n : ℕ) (oks : (t : ℕ) → t < n → Ok s t) (section 
   pub own-long : (r d : ℕ) → Own r d → 1 ≤ d
   own-long r d o = omega (arith, long (s .chart .bounds) k (s .ar k) (s .period k) (s .len k) (s .fit k hk) r (o .part) (o .rel))
 
+  -- two own releases are in order
   own-order : (r d r′ d′ : ℕ) (o : Own r d) (o′ : Own r′ d′) → Order (s .chart .bounds) k (s .ar k) r (o .part) r′ (o′ .part)
   own-order r d r′ d′ o o′ = order (s .chart .bounds) k (s .ar k) (s .period k) (s .len k) (s .fit k hk) r (o .part) r′ (o′ .part) (o .rel) (o′ .rel)
 

@@ -10,12 +10,15 @@ use Rattle.lists.proofs.Total.{total-ext, total-mono, total-part, total-some, t
 use Rattle.busy.proofs.Window.{window}
 use Rattle.intime.proofs.System.{sum}
 
+-- no part is larger, so the sum is not
 pub sum-mono : (k : ℕ) (f g : ℕ → ℕ → ℕ) → ((r j : ℕ) → r < k → j < 3 → f r j ≤ g r j) → sum k f ≤ sum k g
 sum-mono k f g h = total-mono k (λ r. total 3 (f r)) (λ r. total 3 (g r)) (λ r l. total-mono 3 (f r) (g r) (λ j. h r j l))
 
+-- a part is at most the sum
 pub sum-part : (k r j : ℕ) (f : ℕ → ℕ → ℕ) → r < k → j < 3 → f r j ≤ sum k f
 sum-part k r j f l m = le-trans (total-part 3 j (f r) m) (total-part k r (λ x. total 3 (f x)) l)
 
+-- a sum that is not 0 has a part that is not
 sum-some : (k : ℕ) (f : ℕ → ℕ → ℕ) → 1 ≤ sum k f → (r : ℕ) × (j : ℕ) × (r < k) × (j < 3) × (1 ≤ f r j)
 sum-some k f h =
     let (r, l, a) = total-some k (λ x. total 3 (f x)) h in
@@ -34,6 +37,7 @@ pub sum-last : (k : ℕ) (f : ℕ → ℕ → ℕ) → sum (suc k) f ≡ sum k f
 unfolding total
 sum-last k f = refl
 
+-- sums of parts that balance each other
 pub sum-balance : (k : ℕ) (a b c d : ℕ → ℕ → ℕ) → ((r j : ℕ) → r < k → j < 3 → a r j + b r j ≡ c r j + d r j) → sum k a + sum k b ≡ sum k c + sum k d
 sum-balance k a b c d h =
     total-balance k (λ r. total 3 (a r)) (λ r. total 3 (b r)) (λ r. total 3 (c r)) (λ r. total 3 (d r))

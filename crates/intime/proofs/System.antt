@@ -22,6 +22,7 @@ on homes section q i j = cond section (isSection j) (not (isSection j)) && eqb (
 abbrev pub sum : ℕ → (ℕ → ℕ → ℕ) → ℕ
 sum k f = total k (λ r. total 3 (f r))
 
+-- all that is asked
 pub record System : Type 0 where
   pub chart : Chart
   pub ar : Arrivals
@@ -47,10 +48,11 @@ pub record System : Type 0 where
       + sum (getD (chart .rank) i 0) (λ r e. cond (on (chart .homes) (isSection j) (home (chart .homes) i j) (row r) e) (ceil (getD (chart .bounds) (3 * i + j) 0) (period (row r)) * len (row r) e) 0)
       ≤ getD (chart .bounds) (3 * i + j) 0
   -- what may block a section, less the unit that it has run when it is in the way
-  pub room : (k i : ℕ) → k < chart .n → i < chart .n → 1 ≤ len i 1 → getD (chart .rank) k 0 < getD (chart .rank) i 0
+  pub room : (k i : ℕ) → k < chart .n → i < chart .n → getD (chart .rank) k 0 < getD (chart .rank) i 0
       → home (chart .homes) i 1 ≡ home (chart .homes) k 1 → getD (chart .top) i 0 ≤ getD (chart .rank) k 0 → len i 1 ≤ block k + 1
 
 module _ (s : System) where
+  -- what it has, by short names: how many rows, the parts' processors, the rows' ranks and ceilings, and the parts' bounds
   abbrev pub count : ℕ
   count = s .chart .n
 

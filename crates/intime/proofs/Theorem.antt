@@ -69,7 +69,7 @@ module _ (t : Table) (p : Plan) (g : GoodTable t) (st : Stands t p) (ar : Arriva
   -- from its release and its bound on it has ended
   ended : (i a j n : ℕ) (ls : List ℕ) → i < t .n → j < 3 → ar i a ≡ some ls → releaseOf p i a j + boundOf p i j ≤ n → Ended (released t p ar n i) a j
   unfolding system chartOf mid
-  ended i a j n ls hi hj came le = behind s i a j n ls hi hj came (omega (arith, release-is t p g i a j hi (omega arith), bound-is t p g i j hi hj))
+  ended i a j n ls hi hj came le = behind s i a j n ls hi came (omega (arith, release-is t p g i a j hi (omega arith), bound-is t p g i j hi hj))
 
   -- a row with a begun section takes time for it, so it names a resource
   names : (n i : ℕ) → i < t .n → Begun (job s n i) → 1 ≤ getD (t .resource) i 0
@@ -91,6 +91,7 @@ module _ (t : Table) (p : Plan) (g : GoodTable t) (st : Stands t p) (ar : Arriva
       go (inr (inl above)) = absurd (omega (arith, top-user t p g i k hi hk (names n i hi (l, at, begun)) same))
       go (inr (inr above)) = absurd (omega (arith, top-user t p g k i hk hi (names n k hk (m, at′, begun′)) (sym same)))
 
+  -- all of the statement
   all-in-time : InTime t p ar
   unfolding system chartOf job releaseOf
   all-in-time =
@@ -104,7 +105,7 @@ module _ (t : Table) (p : Plan) (g : GoodTable t) (st : Stands t p) (ar : Arriva
             omega (arith, ends-within i a j e ls hi hj x, in-period t p st i a j hi hj, va .apart i a b ls ks hi came next before);
         never-late = no-late s;
         alone = one-begun;
-        worst = λ n i j hi hj. rw (← bound-is t p g i j hi hj) (worst-le s n i j hi hj);
+        worst = λ n i j hi hj. rw (← bound-is t p g i j hi hj) (worst-le s n i j);
       }
 
 -- for every plan that stands

@@ -10,6 +10,7 @@ use native.Mathlib.Omega.{arith}
 use borrow.Author.Tests.{eqb-true, eqb-false}
 use lib.ListN.{getD}
 use lib.Dec.{eqb}
+use Rattle.lists.proofs.Tests.{clash}
 use Rattle.lists.proofs.Tab.{getD-tab}
 use Rattle.chain.specs.declared.Place.{Place}
 use Rattle.chain.specs.declared.Place.the-variants.{Idle, Waiting, Running}
@@ -39,6 +40,7 @@ pub record Ok (s : System) (t : ℕ) : Type 0 where
 abbrev pub Picked : System → ℕ → ℕ → Type 0
 Picked s q t = Picks (homes s) (s .chart .rank) (s .chart .top) (count s) (releasedAt (s .chart) (s .ar) t) q (runner s t q)
 
+-- each processor's pick says so
 pub picks-in : (s : System) (q t : ℕ) → Picked s q t
 unfolding runner
 picks-in s q t = pick-says (homes s) (s .chart .rank) (s .chart .top) (count s) (releasedAt (s .chart) (s .ar) t) q
@@ -48,7 +50,7 @@ pub lens-le : (s : System) (t i j l : ℕ) (x : Job) → i < count s → IsRunni
 lens-le s t i j l x hi f = s .fit i hi .lengths (x .arrived) (x .lens) (f .live .came) j (f .inside)
 
 -- a section stays one for an equal job
-abbrev pub move : (hs : List ℕ) (q i : ℕ) (x y : Job) → x ≡ y → Section hs q i x → Section hs q i y
+abbrev move : (hs : List ℕ) (q i : ℕ) (x y : Job) → x ≡ y → Section hs q i x → Section hs q i y
 move hs q i x y e z = record { rest = z .rest; at = ap (λ (k : Job). k .place) (sym e) ∙ z .at; on = z .on }
 
 -- jobs of which each begun one is the row's job among stacked ones are stacked too
@@ -132,8 +134,8 @@ module _ (s : System) where
             eqb-false (runner s t (home (homes s) i j)) (suc i) w (rw jd r))
 
         go : (p : Place) → mid s t i .place ≡ p → Served t i
-        go Idle e = rested (after i Idle hi e) (λ j l e′ r. absurd (let z : _≡_ {A = ℕ} 0 1 = cc in omega arith))
-        go (Waiting u j) e = rested (after i (Waiting u j) hi e) (λ d l e′ r. absurd (let z : _≡_ {A = ℕ} 0 1 = cc in omega arith))
+        go Idle e = rested (after i Idle hi e) (λ j l e′ r. clash cc)
+        go (Waiting u j) e = rested (after i (Waiting u j) hi e) (λ d l e′ r. clash cc)
         go (Running j l) e =
             by j l e (eqb (runner s t (home (homes s) i j)) (suc i)) refl
             (after i (Running j l) hi e
@@ -185,7 +187,7 @@ module _ (s : System) where
         go (inr z) = absurd (omega arith)
 
     -- and carries a mark of a tick before this one
-    pub marked-old : (q i : ℕ) → i < count s → Section (homes s) q i (mid s t i) → 1 ≤ mid s t i .begun → mid s t i .begun ≤ t
+    marked-old : (q i : ℕ) → i < count s → Section (homes s) q i (mid s t i) → 1 ≤ mid s t i .begun → mid s t i .begun ≤ t
     marked-old q i hi z b =
         let e = held-old i hi b in
         let y = move (homes s) q i (mid s t i) (job s t i) e z in
@@ -238,12 +240,14 @@ module _ (s : System) where
 
     -- two sections after the tick: what is begun later of the two started in the tick, or both were begun before
     module _ (q i d : ℕ) (hi : i < count s) (hd : d < count s) (si : Section (homes s) q i (job s (suc t) i)) (sd : Section (homes s) q d (job s (suc t) d)) where
+      -- the one begun later is ranked above the other's ceiling,
       next-above : job s (suc t) d .begun < job s (suc t) i .begun → Origin t q i si → Origin t q d sd → rank s i < top-of s d
       next-above lt (kept mi bi ei li ri) (kept md bd ed ld rd) = mid-stacked .above q i d hi hd mi md bd (omega arith)
       next-above lt (born mi bi ri ei) (kept md bd ed ld rd) = starts-clear q i d hi hd mi bi ri md bd
       next-above lt (kept mi bi ei li ri) (born md bd rd ed) = absurd (omega (arith, marked-old q i hi mi bi))
       next-above lt (born mi bi ri ei) (born md bd rd ed) = absurd (omega arith)
 
+      -- and no two carry one mark
       next-one : job s (suc t) d .begun ≡ job s (suc t) i .begun → Origin t q i si → Origin t q d sd → i ≡ d
       next-one e (kept mi bi ei li ri) (kept md bd ed ld rd) = mid-stacked .one q i d hi hd mi md bd (omega arith)
       next-one e (born mi bi ri ei) (kept md bd ed ld rd) = absurd (omega (arith, marked-old q d hd md bd))

@@ -12,6 +12,7 @@ pub record Covers (terms : List Term) (len blocking bound : ℕ) : Type 0 where
   pub some : 1 ≤ len → 1 ≤ bound
   pub covers : 1 ≤ len → len + blocking + demand terms bound ≤ bound
 
+-- the plan p stands for the table t
 pub record Stands (t : Table) (p : Plan) : Type 0 where
   -- "Section bound S": A + B + the better-ranked sections on that processor
   pub section : (i : ℕ) → i < t .n → Covers (sectionTerms t p (getD (t .rank) i 0)) (getD (t .a) i 0) (blocking t p (getD (t .rank) i 0)) (getD (p .section) i 0)

@@ -1,5 +1,5 @@
 -- What the numbers of a job say of it.
-use Prim.Native.Nat.{ℕ, zero, suc, _+_, _-_, _*_, _<_, _≤_}
+use Prim.Native.Nat.{ℕ, _+_, _-_, _*_, _<_}
 use mathlib.Core.Path.{_≡_, refl, sym, _∙_, ap}
 use mathlib.Core.List.{List, [], _∷_}
 use mathlib.Core.Logic.{dite}
@@ -11,6 +11,7 @@ use lib.ListN.{getD, length, set, length-set}
 use lib.Seq.{sets, length-sets, ext-getD, getD-set-same, getD-set-other}
 use Rattle.lists.specs.Tab.{tab, blank}
 use Rattle.lists.proofs.Tab.{length-tab, getD-tab, getD-blank, length-blank}
+use Rattle.lists.proofs.Sets.{getD-beside, getD-within}
 use Rattle.chain.specs.declared.Place.{Place}
 use Rattle.chain.specs.declared.Place.the-variants.{Idle, Waiting, Running}
 use Rattle.chain.specs.declared.Job.{Job}
@@ -18,10 +19,12 @@ use Rattle.chain.specs.Job.{noJob, jobAt}
 use Rattle.chain.specs.Good.{partOf}
 use Rattle.jobs.specs.Numbers.{codeOf, numberOf, placeIn, numbersOf, jobIn, jobsIn}
 
+-- there are 64 jobs
 pub length-jobs : (flat : List ℕ) → length (jobsIn flat) ≡ 64
 unfolding jobsIn
 length-jobs flat = length-tab 64 (jobIn flat)
 
+-- row i's is what its nine numbers say
 pub jobs-at : (flat : List ℕ) (i : ℕ) → i < 64 → jobAt (jobsIn flat) i ≡ jobIn flat i
 unfolding jobsIn
 jobs-at flat i h = getD-tab 64 (jobIn flat) i noJob h
@@ -30,25 +33,14 @@ jobs-at flat i h = getD-tab 64 (jobIn flat) i noJob h
 pub jobs-are : (js : List Job) (f : ℕ → Job) → length js ≡ 64 → ((i : ℕ) → i < 64 → jobAt js i ≡ f i) → js ≡ tab 64 f
 jobs-are js f l h = ext-getD noJob js (tab 64 f) (l ∙ sym (length-tab 64 f)) (λ i k. let m : i < 64 = omega arith in h i m ∙ sym (getD-tab 64 f i noJob m))
 
+-- it has three lengths
 pub lens-in : (flat : List ℕ) (i : ℕ) → length (jobIn flat i .lens) ≡ 3
 unfolding jobIn
 lens-in flat i = refl
 
+-- writing a job leaves the length as it was
 pub length-put : (flat : List ℕ) (i : ℕ) (x : Job) → length (sets flat (9 * i) (numbersOf x)) ≡ length flat
 length-put flat i x = length-sets flat (9 * i) (numbersOf x)
-
--- what is read after a run of stores: beside it what stood there, and within it what was stored
-module _ {A : Type 0} (d : A) where
-  getD-beside : (u l : List A) (at k : ℕ) → (at ≤ k → at + length u ≤ k) → getD (sets l at u) k d ≡ getD l k d
-  getD-beside [] l at k h = refl
-  getD-beside (a ∷ u) l at k h = getD-beside u (set l at a) (suc at) k (λ m. omega (arith, h (omega arith))) ∙ getD-set-other l at k a d (λ e. omega (arith, h (omega arith)))
-
-  getD-within : (u l : List A) (at j : ℕ) → at + length u ≤ length l → j < length u → getD (sets l at u) (at + j) d ≡ getD u j d
-  getD-within [] l at j h m = absurd (omega arith)
-  getD-within (a ∷ u) l at zero h m = rw (add-zero at) (getD-beside u (set l at a) (suc at) at (λ m. absurd (omega arith)) ∙ getD-set-same l at a d (omega arith))
-  getD-within (a ∷ u) l at (suc j) h m =
-      let e : at + suc j ≡ suc at + j = omega arith in
-      rw e (getD-within u (set l at a) (suc at) j (omega (arith, length-set l at a)) (omega arith))
 
 -- the code and the number of a place stand for it
 place-back : (p : Place) → partOf p < 3 → placeIn (codeOf p) (numberOf p) ≡ p
@@ -61,6 +53,7 @@ place-back (Running j l) h =
     let e : j + 4 - 4 ≡ j = omega arith in
     rw (ne-eqb (j + 4) 0 (λ q. omega arith), le-ltb (j + 4) 4 (omega arith), e)
 
+-- three lengths, one by one
 lens-back : (ls : List ℕ) → length ls ≡ 3 → getD ls 0 0 ∷ getD ls 1 0 ∷ getD ls 2 0 ∷ [] ≡ ls
 lens-back [] h = absurd (omega arith)
 lens-back (a ∷ []) h = absurd (omega arith)
@@ -104,6 +97,7 @@ jobs-put flat i x h l p q =
     there : (k : ℕ) → (k ≡ i → ⊥) → jobIn put k ≡ jobIn flat k
     there k e = same-job put flat k k (λ j m. getD-beside 0 (numbersOf x) flat (9 * i) (9 * k + j) (λ b. omega arith))
 
+-- blank numbers stand for tasks that have not arrived
 pub jobs-blank : jobsIn (blank 576 0) ≡ blank 64 noJob
 unfolding jobsIn jobIn placeIn
 jobs-blank = sym (jobs-are (blank 64 noJob) (jobIn (blank 576 0)) (length-blank 64 noJob) (λ i h. getD-blank 64 noJob i ∙ sym (same-job (blank 576 0) [] i 0 (λ j m. getD-blank 576 0 (9 * i + j)))))

@@ -1,6 +1,6 @@
 -- The jobs of 64 rows as numbers side by side, nine for each: a code and a number for the place, the arrival, the three lengths,
 -- the begun mark, the jobs ended and the units run.
-use Prim.Native.Nat.{ℕ, suc, _+_, _-_, _*_}
+use Prim.Native.Nat.{ℕ, _+_, _-_, _*_}
 use mathlib.Core.Bool.{cond}
 use mathlib.Core.List.{List, [], _∷_}
 use lib.ListN.{getD}
@@ -21,9 +21,11 @@ numberOf Idle = 0
 numberOf (Waiting u j) = u
 numberOf (Running j l) = l
 
+-- the place that they stand for
 unfoldable pub placeIn : ℕ → ℕ → Place
 placeIn code number = cond (eqb code 0) Idle (cond (ltb code 4) (Waiting number (code - 1)) (Running (code - 4) number))
 
+-- the nine numbers of a job
 unfoldable pub numbersOf : Job → List ℕ
 numbersOf x =
     codeOf (x .place) ∷ numberOf (x .place)
@@ -44,5 +46,6 @@ jobIn flat i =
       ran = getD flat (9 * i + 8) 0;
     }
 
+-- the jobs of 64 rows
 unfoldable pub jobsIn : List ℕ → List Job
 jobsIn flat = tab 64 (jobIn flat)

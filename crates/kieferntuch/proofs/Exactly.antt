@@ -9,38 +9,25 @@ use borrow.Author.Tests.{le-ltb, ltb-true, ltb-false}
 use lib.Dec.{ltb}
 use Rattle.table.specs.Table.{readingOf}
 use Rattle.table.proofs.Good.{table-good, number-le}
-use Rattle.plan.specs.declared.Tasks.{Tasks}
 use Rattle.plan.specs.declared.Outcome.{Outcome}
-use Rattle.plan.specs.declared.Outcome.the-variants.{Planned, Failed}
+use Rattle.plan.specs.declared.Outcome.the-variants.{Planned}
 use Rattle.plan.specs.Tasks.{weighed, tasksOf}
-use Rattle.plan.specs.Trial.{numberOf, trialOf}
-use Rattle.plan.specs.Planning.{firstTrial, lastTrial, plannedOf}
-use Rattle.plan.proofs.Exactly.{plan-exactly}
+use Rattle.plan.specs.Trial.{numberOf}
+use Rattle.plan.specs.Planning.{plannedOf}
+use Rattle.plan.proofs.Exactly.{number-planned, number-failed, Succeeds, plan-exactly}
 use Rattle.kieferntuch.specs.Answer.{answer, answerOf, short, outcomeAnswer, planAnswer}
-
--- one of the trials that the paper lists succeeds
-abbrev pub Succeeds : Tasks → Type 0
-Succeeds t = (s : ℕ) × (firstTrial t ≤ s) × (s ≤ lastTrial t) × (trialOf t s .outcome ≡ Planned)
 
 -- the bytes are a good table, and the sheet has room for its plan
 abbrev pub Ready : List ℕ → ℕ → ℕ → Type 0
 Ready bs at size = (readingOf bs .number ≡ 0) × (at + (12 + 9 * readingOf bs .table .n) ≤ size)
 
-found : (o : Outcome) → numberOf o ≡ 0 → o ≡ Planned
-unfolding numberOf
-found Planned e = refl
-found (Failed row mark) e = absurd (omega arith)
-
-failed : (o : Outcome) → (o ≡ Planned → ⊥) → numberOf o ≡ 11
-unfolding numberOf
-failed Planned h = absurd (h refl)
-failed (Failed row mark) h = refl
-
+-- a plan has number 0
 planned-zero : (o : Outcome) → o ≡ Planned → numberOf o ≡ 0
 unfolding numberOf
 planned-zero o e = rw e
 
 module _ (bs : List ℕ) (at size : ℕ) where
+  -- what comes of planning the table
   abbrev out : Outcome
   out = plannedOf (readingOf bs .table) .outcome
 
@@ -63,7 +50,7 @@ module _ (bs : List ℕ) (at size : ℕ) where
   pub planned : planAnswer (readingOf bs) at size .number ≡ 0 → Ready bs at size × (out ≡ Planned)
   planned e =
       let r = ready-by 0 e (inl refl) in
-      (r, found out (sym (ready r) ∙ e))
+      (r, number-planned out (sym (ready r) ∙ e))
 
   -- of a good table, a plan is found exactly when a trial succeeds
   succeeds : readingOf bs .number ≡ 0 → (out ≡ Planned) ↔ Succeeds (tasksOf (readingOf bs .table))
@@ -85,5 +72,5 @@ module _ (bs : List ℕ) (at size : ℕ) where
     (λ e.
         let r = ready-by 11 e (inr refl) in
         (r, λ s. omega (arith, planned-zero out (succeeds (r .0) .1 s), ready r))),
-    λ (r, none). ready r ∙ failed out (λ p. none (succeeds (r .0) .0 p)),
+    λ (r, none). ready r ∙ number-failed out (λ p. none (succeeds (r .0) .0 p)),
   )

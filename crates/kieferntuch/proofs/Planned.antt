@@ -35,7 +35,7 @@ room-test size at need h =
     (λ l. rw (le-leb need (size - at) (omega arith), le-ltb size (at + need) (omega arith)))
 
 -- an answer, and the sheet with it
-abbrev pub Ended : Reading → ℕ → List ℕ → Answer → List ℕ → Type 0
+abbrev Ended : Reading → ℕ → List ℕ → Answer → List ℕ → Type 0
 Ended r at sheet a after = (a ≡ planAnswer r at (length sheet)) × (after ≡ sheetAfter r at sheet)
 
 module _ (r : Reading) (at : ℕ) (sheet : List ℕ) where
@@ -44,22 +44,26 @@ module _ (r : Reading) (at : ℕ) (sheet : List ℕ) where
   unfolding sheetAfter
   kept a h e = (e, rw (sym e, lt-ltb 0 (a .number) h))
 
+  -- 1 to 9
   pub refused : 0 < r .number → Ended r at sheet (answerOf r) sheet
   unfolding planAnswer
   refused h = kept (answerOf r) h (rw (lt-ltb 0 (r .number) h))
 
   module _ (good : r .number ≤ 0) where
+    -- 10
     pub too-short : length sheet < at + (12 + 9 * r .table .n) → Ended r at sheet (answer 10 0 0) sheet
     unfolding planAnswer
     too-short h = kept (answer 10 0 0) (omega arith) (rw (le-ltb 0 (r .number) good, lt-ltb (length sheet) (at + (12 + 9 * r .table .n)) h))
 
     module _ (room : at + (12 + 9 * r .table .n) ≤ length sheet) (x : Tried) (is : x ≡ plannedOf (r .table)) where
+      -- 11
       pub no-plan : (row mark : ℕ) → x .outcome ≡ Failed row mark → Ended r at sheet (answer 11 row mark) sheet
       unfolding planAnswer numberOf namesOf markOf
       no-plan row mark e =
           kept (answer 11 row mark) (omega arith)
           (rw (le-ltb 0 (r .number) good, le-ltb (length sheet) (at + (12 + 9 * r .table .n)) room, sym is, e))
 
+      -- and the plan is written
       pub has-plan : (after : List ℕ) → x .outcome ≡ Planned → after ≡ writtenAt sheet at (bytesOf (r .table) (x .plan)) → Ended r at sheet (answer 0 0 0) after
       unfolding planAnswer sheetAfter numberOf namesOf markOf
       has-plan after e w =

@@ -23,6 +23,7 @@ there sheet at bytes n e l =
     ap (λ (x : List ℕ). take n x) (drop-at (take at sheet) (bytes ++ drop (at + length bytes) sheet) at (length-take-le at sheet l))
     ∙ take-at bytes (drop (at + length bytes) sheet) n e
 
+-- so they say the plan
 pub sheet-read-back : (bs : List ℕ) (at : ℕ) (sheet : List ℕ) → planAnswer (readingOf bs) at (length sheet) .number ≡ 0 →
     let t = readingOf bs .table in
     let p = plannedOf t .plan in

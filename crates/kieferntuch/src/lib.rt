@@ -1,11 +1,10 @@
 // What C and Rust link: `rt staticlib kieferntuch` makes libkieferntuch.a, and include/kieferntuch.h declares the functions.
 ghost use mathlib.Core.Path.{_≡_};
 ghost use mathlib.Core.Bool.{not};
-ghost use Prim.Native.Nat.{ℕ, _+_, _*_, _<_, _≤_};
+ghost use Prim.Native.Nat.{_+_, _*_, _<_, _≤_};
 ghost use lib.ListN.{length};
+ghost use Rattle.lists.specs.Tab.{blank};
 ghost use Rattle.table.specs.Table.{readingOf};
-ghost use Rattle.table.specs.Good.{GoodTable};
-ghost use Rattle.plan.specs.Planning.{plannedOf};
 ghost use Rattle.sheet.specs.Sheet.{planBytes, ServesFit, TasksFit};
 ghost use Rattle.run.specs.Answer.{runAnswer, traceAfter};
 ghost use Rattle.kieferntuch.specs.Answer.{answer as Answer·answer, answerOf, short, planAnswer};
@@ -101,7 +100,9 @@ pub extern "C" fn kieferntuch_plan(table: &[u8], at: usize, sheet: &mut [u8]) ->
 }
 
 // Room for the numbers of 4,096 arrivals.
-fn no_flat() -> [u32; 20480] {
+fn no_flat() -> [u32; 20480]
+    ensures { λ r. ⌜ r ≡ blank 20480 0 ⌝ }
+{
     [0u32; 20480]
 }
 

@@ -28,6 +28,7 @@ abbrev All : List Case → Type 0
 All [] = Unit {0}
 All ((table, lines) ∷ cs) = (listingOf (readingOf table) ≡ bytesOf lines) × All cs
 
+-- the paper's figures that are printed
 cases : List Case
 cases =
     -- P under PCP: "For P it prints exactly"
@@ -42,6 +43,7 @@ cases =
     ∷ ([], "refused 1 0 0" ∷ [])
     ∷ []
 
+-- the definitions compute all of them
 every-case : All cases
 unfolding cases planning joined spelled decimal spaced line refusedLine planLine resourceLine resourceLines taskLine planText outcomeText listingOf
 every-case = (refl, (refl, (refl, (refl, (refl, tt)))))

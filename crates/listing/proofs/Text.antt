@@ -9,8 +9,8 @@ use native.Mathlib.Numerals.{add-one}
 use native.Mathlib.Decide.{decLt}
 use borrow.Author.Tests.{lt-ltb, le-ltb}
 use lib.ListN.{length, getD, take, drop, set, length-append}
-use lib.Seq.{sets, length-sets, take-suc}
-use Rattle.lists.proofs.Sets.{sets-append, drop-set}
+use lib.Seq.{sets, take-suc}
+use Rattle.lists.proofs.Sets.{sets-then, stored-length, drop-set}
 use Rattle.listing.specs.Text.{spelled, decimal, spaced, Wrote}
 
 -- more turns than the number change nothing
@@ -28,6 +28,7 @@ pub spelled-more : (n : ℕ) (behind : List ℕ) → 9 < n → spelled (suc n) n
 unfolding spelled
 spelled-more n behind h = rw (le-ltb n 10 h) (enough n (suc (n / 10)) (n / 10) ((48 + n % 10) ∷ behind) (omega arith) (omega arith))
 
+-- the last of them
 pub spelled-last : (n : ℕ) (behind : List ℕ) → n ≤ 9 → spelled (suc n) n behind ≡ (48 + n) ∷ behind
 unfolding spelled
 spelled-last n behind h = rw (lt-ltb n 10 (omega arith))
@@ -41,7 +42,8 @@ shorter (suc (suc f)) n h k =
     let q : suc (suc f) - 1 ≡ suc f = omega arith in
     (omega arith, rw q (omega arith))
 
-pub spaced-more : (ns : List ℕ) (n : ℕ) → spaced (ns ++ (n ∷ [])) ≡ spaced ns ++ (32 ∷ decimal n)
+-- one number more
+spaced-more : (ns : List ℕ) (n : ℕ) → spaced (ns ++ (n ∷ [])) ≡ spaced ns ++ (32 ∷ decimal n)
 unfolding spaced
 spaced-more [] n = rw append-nil
 spaced-more (x ∷ ns) n = rw (spaced-more ns n, append-assoc)
@@ -61,12 +63,13 @@ pub then : {o o1 o2 : List ℕ} {at e1 e2 : ℕ} (u v : List ℕ) → Wrote o at
 then {o} {o1} {o2} {at} {e1} {e2} u v w x =
     record {
       ends = omega (arith, w .ends, x .ends, length-append u v);
-      bytes = x .bytes ∙ ap (λ (l : List ℕ). sets l e1 v) (w .bytes) ∙ ap (λ (e : ℕ). sets (sets o at u) e v) (w .ends) ∙ sets-append o at u v;
+      bytes = sets-then o at (length u) u v refl (w .bytes) (x .bytes ∙ ap (λ (e : ℕ). sets o1 e v) (w .ends));
     }
 
+-- an empty text
 pub wrote-nothing : (o : List ℕ) (at : ℕ) → Wrote o at o at []
 wrote-nothing o at = record { ends = omega arith; bytes = refl }
 
 -- a text leaves the length as it was
 pub wrote-length : {o o1 : List ℕ} {at e : ℕ} (u : List ℕ) → Wrote o at o1 e u → length o1 ≡ length o
-wrote-length {o} {o1} {at} u w = ap length (w .bytes) ∙ length-sets o at u
+wrote-length {o} {at = at} u w = stored-length o at u (w .bytes)

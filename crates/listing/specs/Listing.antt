@@ -14,16 +14,16 @@ use Rattle.plan.specs.Planning.{plannedOf}
 use Rattle.listing.specs.Text.{line}
 
 -- the words that lines begin with, letter by letter
-abbrev pub planWord : List ℕ
+abbrev planWord : List ℕ
 planWord = 112 ∷ 108 ∷ 97 ∷ 110 ∷ []
 
-abbrev pub resourceWord : List ℕ
+abbrev resourceWord : List ℕ
 resourceWord = 114 ∷ 101 ∷ 115 ∷ 111 ∷ 117 ∷ 114 ∷ 99 ∷ 101 ∷ []
 
-abbrev pub taskWord : List ℕ
+abbrev taskWord : List ℕ
 taskWord = 116 ∷ 97 ∷ 115 ∷ 107 ∷ []
 
-abbrev pub refusedWord : List ℕ
+abbrev refusedWord : List ℕ
 refusedWord = 114 ∷ 101 ∷ 102 ∷ 117 ∷ 115 ∷ 101 ∷ 100 ∷ []
 
 -- "A refusal prints one line: refused, number, what it names, mark."

@@ -10,19 +10,23 @@ use borrow.Author.Tests.{lt-ltb, le-ltb}
 use lib.Dec.{ltb}
 use Rattle.lists.specs.Count.{count}
 
+-- one number more is tested
 pub count-more : (k : ℕ) (p : ℕ → Bool) → count (k + 1) p ≡ count k p + cond (p k) 1 0
 unfolding count
 count-more k p = rw add-one
 
+-- tests that agree below n count the same
 pub count-ext : (n : ℕ) (p q : ℕ → Bool) → ((j : ℕ) → j < n → p j ≡ q j) → count n p ≡ count n q
 unfolding count
 count-ext zero p q h = refl
 count-ext (suc n) p q h = rw (count-ext n p q (λ j l. h j (omega arith)), h n (omega arith))
 
+-- a flag that is set only where another is counts no more
 one-le : (a b : Bool) → (a ≡ true → b ≡ true) → cond a 1 0 ≤ cond b 1 0
 one-le true b h = rw (h refl) (omega arith)
 one-le false b h = zero-le
 
+-- no more pass p than q, if q is wider
 pub count-le : (n : ℕ) (p q : ℕ → Bool) → ((j : ℕ) → j < n → p j ≡ true → q j ≡ true) → count n p ≤ count n q
 unfolding count
 count-le zero p q h = zero-le
@@ -41,6 +45,7 @@ count-lt (suc n) p q h a l x y =
     let y' : q n ≡ true = rw e at y in
     rw (x', y') (omega (arith, count-le n p q (λ j l'. h j (omega arith)))))
 
+-- a test that all pass counts all
 pub count-all : (n : ℕ) → count n (λ j. true) ≡ n
 unfolding count
 count-all zero = refl
@@ -50,10 +55,12 @@ count-all (suc n) = omega (arith, count-all n)
 squash : ℕ → ℕ → ℕ
 squash w v = cond (ltb w v) (v - 1) v
 
+-- what is left out makes room: there is one value less
 squash-lt : (w v m : ℕ) → v < suc m → w < suc m → (v ≡ w → ⊥) → squash w v < m
 unfolding squash
 squash-lt w v m a b n = dite (decLt w v) (λ h. rw (lt-ltb w v h) (omega arith)) (λ h. rw (le-ltb w v (omega arith)) (omega arith))
 
+-- and values stay apart
 squash-inj : (w u v : ℕ) → (u ≡ w → ⊥) → (v ≡ w → ⊥) → squash w u ≡ squash w v → u ≡ v
 unfolding squash
 squash-inj w u v m n e =
@@ -65,9 +72,11 @@ squash-inj w u v m n e =
     (λ k. let e' : u ≡ v - 1 = rw (le-ltb w u (omega arith), lt-ltb w v k) at e in omega arith)
     (λ k. let e' : u ≡ v = rw (le-ltb w u (omega arith), le-ltb w v (omega arith)) at e in e'))
 
+-- each of the first n numbers goes below m
 abbrev Into : ℕ → ℕ → (ℕ → ℕ) → Type 0
 Into n m f = (i : ℕ) → i < n → f i < m
 
+-- no two of them go to one place
 abbrev Inj : ℕ → (ℕ → ℕ) → Type 0
 Inj n f = (i j : ℕ) → i < n → j < n → f i ≡ f j → i ≡ j
 

@@ -3,6 +3,8 @@ use Prim.Native.Nat.{ℕ, zero, suc, _≤_, _<_, zero-le}
 use mathlib.Core.Path.{_≡_, refl}
 use mathlib.Core.Bool.{Bool, true, false, cond}
 use native.Mathlib.Omega.{arith}
+use borrow.Author.Tests.{lt-ltb, le-ltb, ltb-false}
+use lib.Dec.{ltb}
 use Rattle.lists.specs.First.{first}
 
 -- below it none passes
@@ -26,6 +28,7 @@ first-yes (suc n) p h = go (p 0) refl h (first-yes n (λ j. p (suc j)))
     go true e h ih = e
     go false e h ih = ih (omega arith)
 
+-- it is at most n
 pub first-le : (n : ℕ) (p : ℕ → Bool) → first n p ≤ n
 unfolding first
 first-le zero p = zero-le
@@ -53,3 +56,17 @@ pub first-ext : (n : ℕ) (p q : ℕ → Bool) → ((j : ℕ) → j < n → p j 
 unfolding first
 first-ext zero p q h = refl
 first-ext (suc n) p q h = rw (h 0 (omega arith), first-ext n (λ k. p (suc k)) (λ k. q (suc k)) (λ j l. h (suc j) (omega arith)))
+
+-- the first number with something against it, where 0 is nothing
+module _ (n : ℕ) (f : ℕ → ℕ) where
+  -- a bad one behind good ones is it
+  pub first-bad : (k : ℕ) → k < n → ((j : ℕ) → j < k → f j ≡ 0) → 0 < f k → first n (λ j. ltb 0 (f j)) ≡ k
+  first-bad k l good bad = first-is n (λ j. ltb 0 (f j)) k l (λ j h. le-ltb 0 (f j) (omega (arith, good j h))) (lt-ltb 0 (f k) bad)
+
+  -- there is none where all are good
+  pub none-bad : ((j : ℕ) → j < n → f j ≡ 0) → first n (λ j. ltb 0 (f j)) ≡ n
+  none-bad good = first-none n (λ j. ltb 0 (f j)) (λ j h. le-ltb 0 (f j) (omega (arith, good j h)))
+
+  -- those before it are good
+  pub good-before : (k : ℕ) → k < first n (λ j. ltb 0 (f j)) → f k ≡ 0
+  good-before k h = omega (arith, ltb-false 0 (f k) (first-no n (λ j. ltb 0 (f j)) k h))

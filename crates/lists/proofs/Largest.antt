@@ -10,6 +10,7 @@ use native.Mathlib.Nat.{le-max-left, le-max-right, max-le}
 use Rattle.lists.specs.Largest.{largest}
 
 module _ (p : ℕ → Bool) (f : ℕ → ℕ) where
+  -- one number more is looked at
   pub largest-more : (k : ℕ) → largest (k + 1) p f ≡ cond (p k) (max (f k) (largest k p f)) (largest k p f)
   unfolding largest
   largest-more k = rw add-one

@@ -1,21 +1,44 @@
 -- Laws of stores and of what stands behind a place.
 use Prim.Native.Nat.{ℕ, zero, suc, _+_, _-_, _<_, _≤_}
-use mathlib.Core.Path.{_≡_, sym, _∙_, ap}
+use mathlib.Core.Path.{_≡_, refl, sym, _∙_, ap}
 use mathlib.Core.List.{List, [], _∷_, _++_, append-assoc}
 use native.Mathlib.Omega.{arith}
 use native.Mathlib.Numerals.{add-one}
+use native.Mathlib.Nat.{add-zero}
 use lib.ListN.{length, getD, take, drop, set, length-set, length-drop}
-use lib.Seq.{sets, sets-eq, set-comm, take-all, take-suc, length-take-le, drop-cons, drop-drop, getD-set-same, drop-set-lt}
+use lib.Seq.{sets, sets-eq, length-sets, set-comm, take-all, take-suc, length-take-le, drop-cons, drop-drop, getD-set-same, getD-set-other, drop-set-lt}
 
 module _ {A : Type 0} where
   -- stores one run behind the other are one run
-  pub sets-append : (l : List A) (i : ℕ) (u v : List A) → sets (sets l i u) (i + length u) v ≡ sets l i (u ++ v)
+  sets-append : (l : List A) (i : ℕ) (u v : List A) → sets (sets l i u) (i + length u) v ≡ sets l i (u ++ v)
   sets-append l i [] v =
       let e : i + 0 ≡ i = omega arith in
       ap (λ (k : ℕ). sets l k v) e
   sets-append l i (a ∷ u) v =
       let e : i + suc (length u) ≡ suc i + length u = omega arith in
       ap (λ (k : ℕ). sets (sets (set l i a) (suc i) u) k v) e ∙ sets-append (set l i a) (suc i) u v
+
+  -- the same, where the second run is known to be stored k places behind the start of the first
+  pub sets-then : {l1 l2 : List A} (l : List A) (at k : ℕ) (u v : List A) → length u ≡ k → l1 ≡ sets l at u → l2 ≡ sets l1 (at + k) v → l2 ≡ sets l at (u ++ v)
+  sets-then l at k u v n e1 e2 =
+      e2 ∙ ap (λ (m : List A). sets m (at + k) v) e1 ∙ ap (λ (j : ℕ). sets (sets l at u) (at + j) v) (sym n) ∙ sets-append l at u v
+
+  -- a run that is stored leaves the length as it was
+  pub stored-length : {l1 : List A} (l : List A) (at : ℕ) (u : List A) → l1 ≡ sets l at u → length l1 ≡ length l
+  stored-length l at u e = ap length e ∙ length-sets l at u
+
+  -- what is read after a run of stores: beside it what stood there,
+  pub getD-beside : (d : A) (u l : List A) (at k : ℕ) → (at ≤ k → at + length u ≤ k) → getD (sets l at u) k d ≡ getD l k d
+  getD-beside d [] l at k h = refl
+  getD-beside d (a ∷ u) l at k h = getD-beside d u (set l at a) (suc at) k (λ m. omega (arith, h (omega arith))) ∙ getD-set-other l at k a d (λ e. omega (arith, h (omega arith)))
+
+  -- and within it what was stored
+  pub getD-within : (d : A) (u l : List A) (at j : ℕ) → at + length u ≤ length l → j < length u → getD (sets l at u) (at + j) d ≡ getD u j d
+  getD-within d [] l at j h m = absurd (omega arith)
+  getD-within d (a ∷ u) l at zero h m = rw (add-zero at) (getD-beside d u (set l at a) (suc at) at (λ m. absurd (omega arith)) ∙ getD-set-same l at a d (omega arith))
+  getD-within d (a ∷ u) l at (suc j) h m =
+      let e : at + suc j ≡ suc at + j = omega arith in
+      rw e (getD-within d u (set l at a) (suc at) j (omega (arith, length-set l at a)) (omega arith))
 
   -- one more store of a run that is copied
   pub sets-more : (l : List A) (at : ℕ) (s : List A) (i : ℕ) (d : A) → i < length s → set (sets l at (take i s)) (at + i) (getD s i d) ≡ sets l at (take (i + 1) s)

@@ -1,21 +1,23 @@
 -- Laws of tabulated lists.
-use Prim.Native.Nat.{ℕ, zero, suc, _+_, _-_, _*_, _≤_, _<_}
+use Prim.Native.Nat.{ℕ, zero, suc, _+_, _-_, _≤_, _<_}
 use mathlib.Core.Path.{_≡_, refl, _∙_, ap}
 use mathlib.Core.List.{List, [], _∷_, _++_, append-assoc, append-nil}
 use mathlib.Core.Logic.{dite}
 use native.Mathlib.Omega.{arith}
 use native.Mathlib.Decide.{decLt}
 use native.Mathlib.Numerals.{add-one}
-use native.Mathlib.Nat.{add-zero, add-suc, mul-suc, sub-zero}
+use native.Mathlib.Nat.{add-zero, add-suc, sub-zero}
 use lib.ListN.{length, getD, set, replicate, replicate-append-replicate, length-append, length-replicate, getD-replicate, List·getD-append}
 use lib.Seq.{set-at, getD-at, getD-append-add}
-use Rattle.lists.specs.Tab.{tab, joined, blank, filled}
+use Rattle.lists.specs.Tab.{tab, blank, filled}
 
+-- a tabulated list has n places
 pub length-tab : {A : Type 0} (n : ℕ) (f : ℕ → A) → length (tab n f) ≡ n
 unfolding tab
 length-tab zero f = refl
 length-tab (suc n) f = simp length-append (omega (arith, length-tab n f))
 
+-- and at each of them what the rule gives
 pub getD-tab : {A : Type 0} (n : ℕ) (f : ℕ → A) (k : ℕ) (d : A) → k < n → getD (tab n f) k d ≡ f k
 unfolding tab
 getD-tab zero f k d h = absurd (omega arith)
@@ -69,6 +71,7 @@ module _ {A : Type 0} (size : ℕ) (z : A) (f : ℕ → A) where
       let e : size - size ≡ 0 = omega arith in
       rw (e, append-nil)
 
+  -- a filled place
   pub getD-filled : (n k : ℕ) (d : A) → k < n → getD (filled size z n f) k d ≡ f k
   unfolding filled
   getD-filled n k d h = List·getD-append (tab n f) (replicate (size - n) z) d k (omega (arith, length-tab n f)) ∙ getD-tab n f k d h
@@ -82,6 +85,7 @@ module _ {A : Type 0} (size : ℕ) (z : A) (f : ℕ → A) where
       ∙ getD-append-add (tab n f) (replicate (size - n) z) (k - n) d
       ∙ getD-replicate (size - n) (k - n) z d (omega arith)
 
+  -- an array keeps its size
   pub length-filled : (n : ℕ) → n ≤ size → length (filled size z n f) ≡ size
   unfolding filled
   length-filled n h = omega (arith, length-append (tab n f) (replicate (size - n) z), length-tab n f, length-replicate (size - n) z)
@@ -111,17 +115,7 @@ getD-blank zero z k = refl
 getD-blank (suc size) z zero = refl
 getD-blank (suc size) z (suc k) = getD-blank size z k
 
--- one list more behind the others
-pub joined-more : {A : Type 0} (n : ℕ) (f : ℕ → List A) → joined (n + 1) f ≡ joined n f ++ f n
-unfolding joined
-joined-more n f = rw add-one
-
+-- a blank array has its size
 pub length-blank : {A : Type 0} (n : ℕ) (z : A) → length (blank n z) ≡ n
 unfolding blank
 length-blank n z = length-replicate n z
-
--- lists of one length, one behind the other
-pub length-joined : {A : Type 0} (n w : ℕ) (f : ℕ → List A) → ((i : ℕ) → length (f i) ≡ w) → length (joined n f) ≡ w * n
-unfolding joined
-length-joined zero w f h = omega arith
-length-joined (suc n) w f h = simp length-append (omega (arith, length-joined n w f h, h n, mul-suc w n))

@@ -9,16 +9,19 @@ use native.Mathlib.Nat.{add-mul}
 use Rattle.lists.specs.Total.{total}
 use Rattle.lists.specs.Count.{count}
 
+-- rules that agree below n have the same sum
 pub total-ext : (n : ℕ) (f g : ℕ → ℕ) → ((i : ℕ) → i < n → f i ≡ g i) → total n f ≡ total n g
 unfolding total
 total-ext zero f g h = refl
 total-ext (suc n) f g h = omega (arith, total-ext n f g (λ i l. h i (omega arith)), h n (omega arith))
 
+-- a sum of 0s
 pub total-zero : (n : ℕ) (f : ℕ → ℕ) → ((i : ℕ) → i < n → f i ≡ 0) → total n f ≡ 0
 unfolding total
 total-zero zero f h = refl
 total-zero (suc n) f h = omega (arith, total-zero n f (λ i l. h i (omega arith)), h n (omega arith))
 
+-- a sum of sums, number by number
 pub total-add : (n : ℕ) (f g : ℕ → ℕ) → total n (λ i. f i + g i) ≡ total n f + total n g
 unfolding total
 total-add zero f g = refl
@@ -41,11 +44,13 @@ unfolding total
 total-swap zero n f = sym (total-zero n (λ j. 0) (λ j l. refl))
 total-swap (suc m) n f = ap (λ (k : ℕ). k + total n (f m)) (total-swap m n f) ∙ sym (total-add n (λ j. total m (λ i. f i j)) (f m))
 
+-- no number is larger, so the sum is not
 pub total-mono : (n : ℕ) (f g : ℕ → ℕ) → ((i : ℕ) → i < n → f i ≤ g i) → total n f ≤ total n g
 unfolding total
 total-mono zero f g h = omega arith
 total-mono (suc n) f g h = omega (arith, total-mono n f g (λ i l. h i (omega arith)), h n (omega arith))
 
+-- a factor of each number is a factor of the sum
 pub total-scale : (n c : ℕ) (f : ℕ → ℕ) → total n (λ i. f i * c) ≡ total n f * c
 unfolding total
 total-scale zero c f = omega arith

@@ -1,7 +1,10 @@
-// Definitions over lists and numbers that every layer uses, with their laws (specs/ and proofs/), and the blank arrays that columns are filled from.
+// What every layer uses: definitions over lists and numbers (specs/) with their laws (proofs/), the blank arrays that columns are
+// filled from, and a few small functions.
 ghost use mathlib.Core.Path.{_≡_};
 ghost use mathlib.Core.Bool.{cond};
-ghost use Prim.Native.Nat.{_≤_};
+ghost use Prim.Native.Nat.{_+_, _≤_, min};
+ghost use lib.ListN.{length};
+ghost use lib.Seq.{sets};
 ghost use Rattle.lists.specs.Tab.{blank};
 
 // 64 places, one for each row a table can have, with 0 at each.
@@ -23,4 +26,21 @@ pub fn one_if(b: bool) -> u32
     ensures { λ r. ⌜ (r ≡ cond b 1 0) × (r ≤ 1) ⌝ }
 {
     if b { 1 } else { 0 }
+}
+
+// The smaller of two numbers.
+pub fn smaller(x: u32, y: u32) -> u32
+    ensures { λ r. ⌜ r ≡ min x y ⌝ }
+{
+    if x < y { x } else { y }
+}
+
+// Stores bytes from place at of a buffer on.
+pub fn store(out: &mut [u8], at: usize, bytes: &[u8])
+    requires { ⌜ at + length (now bytes) ≤ length (now out) ⌝ }
+    ensures { λ r. ⌜ now (out .exit) ≡ sets (now (out .entry)) at (now (bytes .entry)) ⌝ }
+{
+    for k in 0..bytes.len() {
+        out[at + k] = bytes[k];
+    }
 }

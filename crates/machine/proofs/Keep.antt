@@ -1,7 +1,7 @@
 -- What the machine keeps from tick to tick: its jobs stay good, and their counts small; rows past n stay empty, and the worst
 -- responses in their places.
 use Prim.Native.Nat.{ℕ, zero, suc, _+_, _*_, _≤_, _<_}
-use mathlib.Core.Path.{_≡_, refl, _∙_}
+use mathlib.Core.Path.{_≡_, refl, sym, _∙_}
 use mathlib.Core.Bool.{Bool, true, false, cond}
 use mathlib.Core.List.{List}
 use mathlib.Core.Logic.{dite}
@@ -18,14 +18,15 @@ use Rattle.chain.specs.Job.{noJob, jobAt}
 use Rattle.chain.specs.Release.{released}
 use Rattle.chain.specs.Unit.{unitOf}
 use Rattle.chain.specs.Good.{GoodJob, Small}
+use Rattle.chain.proofs.Places.{part-small}
 use Rattle.chain.proofs.Keeps.{good-released, ended-released, ran-released, begun-released, good-unit, ended-unit, ran-unit, begun-unit}
 use Rattle.picks.specs.Pick.{home, pick}
-use Rattle.picks.proofs.Picked.{pick-le}
+use Rattle.picks.proofs.Picked.{Runs, pick-runs}
 use Rattle.machine.specs.Chart.{Chart}
 use Rattle.machine.specs.Tick.{Arrivals, serveAt, serve, notedAt, noted, notedTo, releases, picked, units, worse, step, jobsAt, worstAt}
 use Rattle.machine.specs.Good.{GoodJobs}
-use Rattle.chain.proofs.Places.{part-small}
 
+-- a task that has not arrived is good
 good-none : GoodJob noJob
 good-none = record { arrived = omega arith; part = omega arith }
 
@@ -83,6 +84,7 @@ length-noted bounds t js (suc i) worst = go (jobAt js i .place)
     go (Waiting u j) = refl
     go (Running j l) = ends (ltb 1 l) _ _
 
+-- and so it is for the first q processors
 length-notes : (bounds : List ℕ) (t : ℕ) (js : List Job) (rows : List ℕ) (q : ℕ) (worst : List ℕ) → length (notedTo bounds t js rows q worst) ≡ length worst
 unfolding notedTo
 length-notes bounds t js rows zero worst = refl
@@ -95,7 +97,8 @@ module _ (c : Chart) where
   units-at t js i h = getD-filled 64 noJob (λ k. serve (picked c js) (c .bounds) (c .homes) t k (jobAt js k)) (c .n) i noJob h
 
   module _ (ar : Arrivals) where
-    pub good-step : (t : ℕ) (js : List Job) → GoodJobs (c .n) t js → t ≤ 1000000 → GoodJobs (c .n) (suc t) (step c ar t js)
+    -- a tick keeps the jobs good
+    good-step : (t : ℕ) (js : List Job) → GoodJobs (c .n) t js → t ≤ 1000000 → GoodJobs (c .n) (suc t) (step c ar t js)
     unfolding step
     good-step t js good h i l =
         let there = releases (c .n) (c .bounds) ar t js in
@@ -128,14 +131,27 @@ module _ (c : Chart) where
     length-worst zero = length-blank 192 0
     length-worst (suc t) = length-notes (c .bounds) t _ _ (c .m) _ ∙ length-worst t
 
-  -- the row that a processor runs is one of the chart's, or none
-  pub picked-row : (js : List Job) (q : ℕ) → getD (picked c js) q 0 ≤ c .n
+  -- a row that is picked is picked at one of the 17 processors,
+  pub picked-pick : (js : List Job) (q i : ℕ) → getD (picked c js) q 0 ≡ suc i → (q < 17) × (pick (c .homes) (c .rank) (c .top) (c .n) js q ≡ suc i)
   unfolding picked
-  picked-row js q =
+  picked-pick js q i e =
       let f = pick (c .homes) (c .rank) (c .top) (c .n) js in
       dite (decLt q 17)
-      (λ l. rw (getD-tab 17 f q 0 l) (pick-le (c .homes) (c .rank) (c .top) (c .n) js q))
-      (λ l. rw (List·getD-eq-default (tab 17 f) 0 {n = q} (omega (arith, length-tab 17 f))) (omega arith))
+      (λ l. (l, sym (getD-tab 17 f q 0 l) ∙ e))
+      (λ l. absurd (omega (arith, List·getD-eq-default (tab 17 f) 0 {n = q} (omega (arith, length-tab 17 f)))))
 
+  -- and runs a part there
+  pub picked-runs : (js : List Job) (q i : ℕ) → getD (picked c js) q 0 ≡ suc i → (i < c .n) × Runs (c .homes) js q i
+  picked-runs js q i e = pick-runs (c .homes) (c .rank) (c .top) (c .n) js q i (picked-pick js q i e .1)
+
+  -- the row that a processor runs is one of the chart's, or none
+  pub picked-row : (js : List Job) (q : ℕ) → getD (picked c js) q 0 ≤ c .n
+  picked-row js q = go (getD (picked c js) q 0) refl
+    where
+      go : (row : ℕ) → getD (picked c js) q 0 ≡ row → row ≤ c .n
+      go zero e = omega arith
+      go (suc i) e = picked-runs js q i e .0
+
+  -- so it is one of 64, or none
   pub picked-le : (js : List Job) → c .n ≤ 64 → (q : ℕ) → getD (picked c js) q 0 ≤ 64
   picked-le js few q = omega (arith, picked-row js q)

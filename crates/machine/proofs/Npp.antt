@@ -18,6 +18,7 @@ module _ (t : Table) (p : Plan) (npp : t .npp ≡ true) where
   unfolding chartOf topsOf
   npp-flat i = rw npp (getD-blank 64 0 i)
 
+  -- the chart
   abbrev c : Chart
   c = chartOf t p
 

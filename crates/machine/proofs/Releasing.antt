@@ -2,7 +2,7 @@
 use Prim.Native.Nat.{ℕ, zero, suc, _+_, _-_, _*_, _≤_, _<_}
 use mathlib.Core.Path.{_≡_, refl, sym, _∙_, ap}
 use mathlib.Core.Bool.{Bool, true, false, cond, _&&_}
-use mathlib.Core.List.{List, [], _∷_, _++_}
+use mathlib.Core.List.{List, _++_}
 use mathlib.Core.Option.{Option, none, some}
 use mathlib.Core.Logic.{dite}
 use native.Mathlib.Omega.{arith}
@@ -12,9 +12,10 @@ use native.Mathlib.Decide.{decLt, ℕ-discrete}
 use borrow.Author.Count.{below-more}
 use borrow.Author.Tests.{ltb-true, lt-ltb, le-ltb, ne-eqb}
 use lib.Dec.{ltb}
-use lib.ListN.{length, getD, set, drop, replicate, length-set, length-drop}
-use lib.Seq.{getD-set-same, getD-set-other, set-getD, getD-drop}
+use lib.ListN.{length, getD, set, drop, replicate, length-set, length-drop, length-replicate, getD-replicate}
+use lib.Seq.{getD-set-same, getD-set-other, set-getD, getD-drop, ext-getD}
 use Rattle.lists.specs.Tab.{tab, filled}
+use Rattle.lists.proofs.Tests.{both}
 use Rattle.lists.proofs.First.{first-is, first-none, first-le}
 use Rattle.arrivals.specs.declared.Arrival.{Arrival}
 use Rattle.arrivals.specs.Arrival.{arrivalAt, lensOf, isOf, brings}
@@ -27,29 +28,22 @@ use Rattle.chain.specs.Good.{GoodJob, Small}
 use Rattle.chain.proofs.Before.{released-before, late-before}
 use Rattle.jobs.specs.Numbers.{jobIn, jobsIn}
 use Rattle.jobs.proofs.Laws.{length-jobs, jobs-at}
-use Rattle.picks.proofs.Bests.{and-both}
 use Rattle.machine.specs.Tick.{Arrivals, releases, lateRow}
 use Rattle.machine.specs.Good.{Dues, Held, Coming}
 use Rattle.machine.proofs.Served.{getD-next, write-next}
 
 -- an arrival that came stands in the list
 pub stands : (came b : Bool) (at count : ℕ) → came ≡ (ltb at count && b) → came ≡ true → at < count
-stands came b at count e h = ltb-true at count (and-both (ltb at count) b (sym e ∙ h) .0)
+stands came b at count e h = ltb-true at count (both (ltb at count) b (sym e ∙ h) .0)
 
+-- the first late row is at most n
 pub late-le : (n : ℕ) (bounds : List ℕ) (ar : Arrivals) (t : ℕ) (js : List Job) → lateRow n bounds ar t js ≤ n
 unfolding lateRow
 late-le n bounds ar t js = first-le n (λ i. late bounds i t (jobAt js i) (ar i t))
 
--- a list with the same at each place
-all-same : {A : Type 0} (z : A) (xs : List A) (m : ℕ) → length xs ≡ m → ((k : ℕ) → k < m → getD xs k z ≡ z) → xs ≡ replicate m z
-all-same z [] zero e h = refl
-all-same z [] (suc m) e h = absurd (omega arith)
-all-same z (x ∷ xs) zero e h = absurd (omega arith)
-all-same z (x ∷ xs) (suc m) e h = rw (h 0 (omega arith), all-same z xs m (omega arith) (λ k l. h (suc k) (omega arith)))
-
 -- the column stays that of the next releases when row i gets another job
-dues-set : (n : ℕ) (bounds : List ℕ) (js : List Job) (dues : List ℕ) → n ≤ length js → n ≤ length dues → Dues n bounds js dues → (i : ℕ) → i < n → (x : Job) → Dues n bounds (set js i x) (set dues i (dueOf bounds i x))
-dues-set n bounds js dues l m h i b x k c =
+dues-set : (n : ℕ) (bounds : List ℕ) (js : List Job) (dues : List ℕ) → n ≤ length js → n ≤ length dues → Dues n bounds js dues → (i : ℕ) (x : Job) → Dues n bounds (set js i x) (set dues i (dueOf bounds i x))
+dues-set n bounds js dues l m h i x k c =
     dite (ℕ-discrete k i)
     (λ e. rw (e, getD-set-same dues i (dueOf bounds i x) 0 (omega arith), getD-set-same js i x noJob (omega arith)))
     (λ e. rw (getD-set-other dues i k (dueOf bounds i x) 0 e, getD-set-other js i k x noJob e) (h k c))
@@ -72,6 +66,7 @@ module _ (bounds : List ℕ) (xs : List Arrival) (t : ℕ) (start : List ℕ) wh
     pub on-time : (k : ℕ) → k < i → behind k ≡ false
 
 module _ {n next t : ℕ} {bounds start dues₀ : List ℕ} {xs : List Arrival} (held : Held n bounds t start dues₀) (coming : Coming n xs next t) where
+  -- before the first row nothing has changed
   pub started : Went-on bounds xs t start n 0 start dues₀ next
   unfolding tab
   started = record { whole = held .whole; column = held .column; jobs = refl; dues-are = held .dues-are; seek = coming .seek; on-time = λ k h. absurd (omega arith) }
@@ -81,6 +76,7 @@ module _ {n next t : ℕ} {bounds start dues₀ : List ℕ} {xs : List Arrival} 
     waits : jobIn flat i ≡ jobAt (jobsIn start) i
     waits = sym (jobs-at flat i (omega (arith, held .few))) ∙ getD-next (after bounds xs t start) (jobsIn start) i (jobsIn flat) (w .jobs) noJob
 
+    -- so it is good
     pub good-here : GoodJob (jobIn flat i) × Small t (jobIn flat i)
     good-here = rw waits (held .good i h)
 
@@ -93,6 +89,7 @@ module _ {n next t : ℕ} {bounds start dues₀ : List ℕ} {xs : List Arrival} 
       brought : gets ≡ brings xs i t
       brought = ap (λ (b : Bool). cond b (some (lensOf (arrivalAt xs at))) none) here ∙ seek-comes n _ _ _ _ xs (coming .good) (held .few) at i t (omega (arith, held .few)) (w .seek)
 
+      -- and is late where the row is
       late-here : late bounds i t (jobIn flat i) gets ≡ behind bounds xs t start i
       late-here = rw (waits, brought)
 
@@ -109,7 +106,7 @@ module _ {n next t : ℕ} {bounds start dues₀ : List ℕ} {xs : List Arrival} 
             whole = size;
             column = rw f (simp length-set (w .column));
             jobs = e ∙ write-next (after bounds xs t start) (jobsIn start) i (jobsIn flat) (w .jobs) noJob x (omega (arith, held .few, length-jobs start)) (rw (waits, brought));
-            dues-are = rw (e, f) (dues-set n bounds (jobsIn flat) dues (omega (arith, held .few, length-jobs flat)) (omega (arith, held .few, w .column)) (w .dues-are) i h x);
+            dues-are = rw (e, f) (dues-set n bounds (jobsIn flat) dues (omega (arith, held .few, length-jobs flat)) (omega (arith, held .few, w .column)) (w .dues-are) i x);
             seek = rw (add-one i, here) (seek-next n _ _ _ _ xs (coming .good) (held .few) at i t (omega (arith, held .few)) (w .seek));
             on-time = below-more (λ k. behind bounds xs t start k ≡ false) i (w .on-time) (sym (l ∙ late-here));
           }
@@ -153,6 +150,8 @@ module _ {n next t : ℕ} {bounds start dues₀ : List ℕ} {xs : List Arrival} 
     where
       none-past : drop n (jobsIn start) ≡ replicate (64 - n) noJob
       none-past =
-          all-same noJob (drop n (jobsIn start)) (64 - n)
-          (omega (arith, length-drop n (jobsIn start), length-jobs start))
-          (λ k l. getD-drop n (jobsIn start) k noJob ∙ jobs-at start (n + k) (omega arith) ∙ held .past (n + k) (omega arith) (omega arith))
+          let size : length (drop n (jobsIn start)) ≡ 64 - n = omega (arith, length-drop n (jobsIn start), length-jobs start) in
+          ext-getD noJob (drop n (jobsIn start)) (replicate (64 - n) noJob) (size ∙ sym (length-replicate (64 - n) noJob))
+          (λ k l.
+          getD-drop n (jobsIn start) k noJob ∙ jobs-at start (n + k) (omega arith) ∙ held .past (n + k) (omega arith) (omega arith)
+          ∙ sym (getD-replicate (64 - n) k noJob noJob (omega arith)))

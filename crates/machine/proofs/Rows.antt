@@ -1,12 +1,14 @@
 -- What each row's job keeps from tick to tick, and what is counted of it.
 use Prim.Native.Nat.{ℕ, zero, suc, _+_, _≤_}
-use mathlib.Core.Path.{_≡_, refl, sym, ap}
-use mathlib.Core.Bool.{Bool, true, false, cond, not, _||_}
+use mathlib.Core.Path.{_≡_, refl, ap}
+use mathlib.Core.Bool.{Bool, true, false, cond}
 use mathlib.Core.List.{List}
 use mathlib.Core.Option.{Option, none, some}
 use native.Mathlib.Omega.{arith}
+use borrow.Author.Tests.{not-false}
 use lib.Dec.{leb}
 use lib.ListN.{getD, length}
+use Rattle.lists.proofs.Tests.{neither}
 use Rattle.chain.specs.declared.Place.{Place}
 use Rattle.chain.specs.declared.Place.the-variants.{Idle, Waiting, Running}
 use Rattle.chain.specs.declared.Job.{Job}
@@ -22,7 +24,7 @@ use Rattle.machine.specs.Tick.{serve}
 use Rattle.machine.proofs.Keep.{serve-cases}
 
 -- the part that runs has a length above 0
-abbrev pub HasLength : List ℕ → Place → Type 0
+abbrev HasLength : List ℕ → Place → Type 0
 HasLength ls Idle = Unit {0}
 HasLength ls (Waiting u j) = Unit {0}
 HasLength ls (Running j l) = 1 ≤ getD ls j 0
@@ -41,11 +43,13 @@ pub record Fits (a t : ℕ) (ls : List ℕ) : Type 0 where
   pub three : length ls ≡ 3
   pub section : getD ls 1 0 ≤ a
 
+-- a task that has not arrived is sound
 pub sound-none : (a : ℕ) → Sound a noJob
 unfolding lensFrom
 sound-none a = record { good = record { arrived = omega arith; part = omega arith }; left = tt; long = tt; whole = refl; section = omega arith }
 
 module _ (bounds : List ℕ) (i t : ℕ) where
+  -- a job that enters its chain runs nothing of length 0
   long-enter : (arrived n j : ℕ) (ls : List ℕ) → HasLength ls (enter bounds i arrived ls t n j)
   unfolding enter starts
   long-enter arrived zero j ls = tt
@@ -58,6 +62,7 @@ module _ (bounds : List ℕ) (i t : ℕ) where
       go false l e h = tt
 
   module _ (a : ℕ) (x : Job) where
+    -- due releases keep a job sound;
     sound-wake : Sound a x → Sound a (wake bounds i t x)
     unfolding admit moved
     sound-wake s =
@@ -69,6 +74,7 @@ module _ (bounds : List ℕ) (i t : ℕ) where
           section = rw (lens-wake bounds i t x) (s .section);
         }
 
+    -- the job of an arrival is;
     sound-arrival : (ls : List ℕ) → Fits a t ls → Sound a (admit bounds i t x (some ls))
     unfolding admit moved
     sound-arrival ls f =
@@ -80,6 +86,7 @@ module _ (bounds : List ℕ) (i t : ℕ) where
           section = f .section;
         }
 
+    -- and a unit keeps it so
     sound-unit : (j l : ℕ) → x .place ≡ Running j l → Sound a x → Sound a (unitOf bounds i t x j l)
     unfolding moved
     sound-unit j l e s =
@@ -100,6 +107,7 @@ added adds (some ls) = adds ls
 module _ (bounds : List ℕ) (i t a : ℕ) (x : Job) (s : Sound a x) where
   -- once the releases of the tick are in
   module _ (came : Option (List ℕ)) (fits : (ls : List ℕ) → came ≡ some ls → Fits a t ls) where
+    -- it is sound,
     pub sound-released : Sound a (released bounds i t x came)
     unfolding admit
     sound-released = go came refl
@@ -113,17 +121,14 @@ module _ (bounds : List ℕ) (i t a : ℕ) (x : Job) (s : Sound a x) where
     unfolding late tooSoon admit
     released-count count adds law = go came refl
       where
-        idle : (b b′ : Bool) → (not b || b′) ≡ false → b ≡ true
-        idle true b′ h = refl
-        idle false b′ h = sym h
-
         go : (o : Option (List ℕ)) → came ≡ o → late bounds i t x o ≡ false → count (released bounds i t x o) ≡ count x + added adds o
         go none e h = omega (arith, law .woken bounds i t x (s .good) (s .whole))
         go (some ls) e h =
-            omega (arith, law .woken bounds i t x (s .good) (s .whole), law .admitted bounds i t (wake bounds i t x) ls (idle _ _ h) (lens-none 3 ls (omega (arith, fits ls e .three))))
+            omega (arith, law .woken bounds i t x (s .good) (s .whole), law .admitted bounds i t (wake bounds i t x) ls (not-false _ (neither _ _ h .0)) (lens-none 3 ls (omega (arith, fits ls e .three))))
 
   -- after the units of the tick
   module _ (picked homes : List ℕ) where
+    -- it is sound,
     pub sound-serve : Sound a (serve picked bounds homes t i x)
     sound-serve = serve-cases (Sound a) picked bounds homes t i x s (λ j l e. sound-unit bounds i t a x j l e s)
 

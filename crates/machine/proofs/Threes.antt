@@ -1,28 +1,30 @@
 -- Three columns side by side: they are written row by row, and each is read at its place.
 use Prim.Native.Nat.{ℕ, zero, suc, _+_, _-_, _*_, _≤_, _<_}
-use mathlib.Core.Path.{_≡_, refl, sym, _∙_, ap}
+use mathlib.Core.Path.{_≡_, refl, _∙_, ap}
 use mathlib.Core.List.{List, [], _∷_, _++_}
-use mathlib.Core.Logic.{dite}
 use native.Mathlib.Omega.{arith}
-use native.Mathlib.Decide.{decLt}
 use lib.ListN.{length, getD, drop, List·getD-append}
 use lib.Seq.{sets, sets-eq, length-sets, getD-append-add, getD-drop}
 use Rattle.lists.specs.Tab.{joined, blank}
-use Rattle.lists.proofs.Tab.{joined-more, length-joined, length-blank, getD-blank}
-use Rattle.lists.proofs.Sets.{sets-append}
+use Rattle.lists.proofs.Tab.{length-blank, getD-blank}
+use Rattle.lists.proofs.Joined.{length-joined, getD-joined, joined-front}
 use Rattle.machine.specs.Chart.{threes}
 
 module _ (xs ys zs : List ℕ) where
+  -- the three numbers of row i
   abbrev row : ℕ → List ℕ
   row i = getD xs i 0 ∷ getD ys i 0 ∷ getD zs i 0 ∷ []
 
+  -- three for each row
   length-rows : (n : ℕ) → length (joined n row) ≡ 3 * n
-  length-rows n = length-joined n 3 row (λ i. refl)
+  length-rows n = length-joined 3 row (λ i. refl) n
 
+  -- no row is written yet
   pub threes-none : threes xs ys zs 0 ≡ blank 192 0
   unfolding threes joined
   threes-none = refl
 
+  -- 192 places in all
   pub length-threes : (n : ℕ) → length (threes xs ys zs n) ≡ 192
   unfolding threes
   length-threes n = length-sets (blank 192 0) 0 (joined n row) ∙ length-blank 192 0
@@ -30,14 +32,9 @@ module _ (xs ys zs : List ℕ) where
   -- one row more
   pub threes-more : (i : ℕ) (out next : List ℕ) → out ≡ threes xs ys zs i → next ≡ sets out (3 * i) (row i) → next ≡ threes xs ys zs (i + 1)
   unfolding threes
-  threes-more i out next e f =
-      let at : 3 * i ≡ 0 + length (joined i row) = omega (arith, length-rows i) in
-      f
-      ∙ ap (λ (l : List ℕ). sets l (3 * i) (row i)) e
-      ∙ ap (λ (k : ℕ). sets (sets (blank 192 0) 0 (joined i row)) k (row i)) at
-      ∙ sets-append (blank 192 0) 0 (joined i row) (row i)
-      ∙ ap (λ (l : List ℕ). sets (blank 192 0) 0 l) (sym (joined-more i row))
+  threes-more i out next e f = joined-front 3 row (λ i. refl) (blank 192 0) i e f
 
+  -- the rows, and the blank places behind them
   threes-eq : (n : ℕ) → n ≤ 64 → threes xs ys zs n ≡ joined n row ++ drop (3 * n) (blank 192 0)
   unfolding threes
   threes-eq n h =
@@ -47,23 +44,14 @@ module _ (xs ys zs : List ℕ) where
       let at : 0 + length (joined n row) ≡ 3 * n = omega arith in
       sets-eq (joined n row) none 0 fits ∙ ap (λ (k : ℕ). joined n row ++ drop k (blank 192 0)) at
 
-  getD-rows : (n i j : ℕ) → i < n → j < 3 → getD (joined n row) (3 * i + j) 0 ≡ getD (row i) j 0
-  unfolding joined
-  getD-rows zero i j h l = absurd (omega arith)
-  getD-rows (suc n) i j h l =
-      dite (decLt i n)
-      (λ k. List·getD-append (joined n row) (row n) 0 (3 * i + j) (omega (arith, length-rows n)) ∙ getD-rows n i j k l)
-      (λ k.
-      let e : i ≡ n = omega arith in
-      let at : 3 * i + j ≡ length (joined n row) + j = omega (arith, length-rows n) in
-      ap (λ (p : ℕ). getD (joined n row ++ row n) p 0) at ∙ getD-append-add (joined n row) (row n) j 0 ∙ ap (λ (p : ℕ). getD (row p) j 0) (sym e))
-
   module _ (n : ℕ) (few : n ≤ 64) where
+    -- number j of row i
     getD-threes : (i j : ℕ) → i < n → j < 3 → getD (threes xs ys zs n) (3 * i + j) 0 ≡ getD (row i) j 0
     getD-threes i j h l =
         rw (threes-eq n few)
-        (List·getD-append (joined n row) (drop (3 * n) (blank 192 0)) 0 (3 * i + j) (omega (arith, length-rows n)) ∙ getD-rows n i j h l)
+        (List·getD-append (joined n row) (drop (3 * n) (blank 192 0)) 0 (3 * i + j) (omega (arith, length-rows n)) ∙ getD-joined 3 row (λ i. refl) n i j 0 h l)
 
+    -- that is, of each of the three columns
     pub threes-first : (i : ℕ) → i < n → getD (threes xs ys zs n) (3 * i + 0) 0 ≡ getD xs i 0
     threes-first i h = getD-threes i 0 h (omega arith)
 

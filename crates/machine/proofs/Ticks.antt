@@ -39,16 +39,18 @@ module _ (c : Chart) (ar : Arrivals) (t i : ℕ) (l : i < c .n) where
   in-time h = first-no (c .n) (λ k. late (c .bounds) k t (jobAt (jobsAt c ar t) k) (ar k t)) i (omega arith)
 
 module _ (c : Chart) (periods c1s secs c2s : List ℕ) (xs : List Arrival) (good : GoodArrivals (c .n) periods c1s secs c2s xs) where
+  -- what a good list brings keeps to the table
   fits : (i t : ℕ) (ls : List ℕ) → brings xs i t ≡ some ls → Fits (getD secs i 0) t ls
   fits i t ls e =
       let b = brings-fits (c .n) periods c1s secs c2s xs good i t ls e in
       record { tick = omega (arith, b .tick); three = b .three; section = b .len2 }
 
+  -- a job that is sound before the releases of a tick is so behind them
   sound-from : (t i : ℕ) → i < c .n → Sound (getD secs i 0) (jobAt (jobsAt c (brings xs) t) i) → Sound (getD secs i 0) (jobAt (releasedAt c (brings xs) t) i)
   sound-from t i l s = rw (released-at c (brings xs) t i l) (sound-released (c .bounds) i t (getD secs i 0) _ s (brings xs i t) (fits i t))
 
-  -- every job is sound, before each tick and once its releases are in
-  pub sound-at : (t i : ℕ) → i < c .n → Sound (getD secs i 0) (jobAt (jobsAt c (brings xs) t) i)
+  -- so every job is sound, before each tick and once its releases are in
+  sound-at : (t i : ℕ) → i < c .n → Sound (getD secs i 0) (jobAt (jobsAt c (brings xs) t) i)
   unfolding jobsAt
   sound-at zero i l = rw (getD-blank 64 noJob i) (sound-none (getD secs i 0))
   sound-at (suc t) i l = rw (served-at c (brings xs) t i l) (sound-serve (c .bounds) i t (getD secs i 0) _ (sound-from t i l (sound-at t i l)) (picked c (releasedAt c (brings xs) t)) (c .homes))

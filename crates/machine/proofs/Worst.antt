@@ -20,6 +20,7 @@ use Rattle.machine.proofs.Keep.{good-releases, good-at, picked-row}
 
 -- a response of one of n rows is noted at none of the places past them
 module _ (bounds : List ℕ) (t : ℕ) (js : List Job) (n : ℕ) (good : (i : ℕ) → i < n → GoodJob (jobAt js i)) (k : ℕ) (past : 3 * n ≤ k) where
+  -- the row of one processor,
   noted-past : (row : ℕ) → row ≤ n → (worst : List ℕ) → getD (noted bounds t js row worst) k 0 ≡ getD worst k 0
   unfolding noted notedAt
   noted-past zero h worst = refl
@@ -34,12 +35,14 @@ module _ (bounds : List ℕ) (t : ℕ) (js : List Job) (n : ℕ) (good : (i : �
       go (Waiting u j) e = refl
       go (Running j l) e = ends (ltb 1 l) (3 * i + j) _ (λ d. omega (arith, part-small (jobAt js i .place) j l (good i h .part) e))
 
+  -- and those of the first q
   notes-past : (rows : List ℕ) → ((q : ℕ) → getD rows q 0 ≤ n) → (q : ℕ) (worst : List ℕ) → getD (notedTo bounds t js rows q worst) k 0 ≡ getD worst k 0
   unfolding notedTo
   notes-past rows few zero worst = refl
   notes-past rows few (suc q) worst = noted-past (getD rows (suc q) 0) (few (suc q)) (notedTo bounds t js rows q worst) ∙ notes-past rows few q worst
 
 module _ (c : Chart) where
+  -- so past row n the worst responses are 0
   pub worst-past : (ar : Arrivals) (t : ℕ) → t ≤ 1000000 → (k : ℕ) → 3 * c .n ≤ k → getD (worstAt c ar t) k 0 ≡ 0
   unfolding worstAt worse releasedAt
   worst-past ar zero h k past = getD-blank 192 0 k

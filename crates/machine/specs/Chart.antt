@@ -10,6 +10,7 @@ use Rattle.plan.specs.declared.Plan.{Plan}
 use Rattle.plan.specs.Tasks.{ofResource}
 pub use Rattle.machine.specs.declared.Chart.{Chart}
 
+-- a chart of these
 abbrev pub chart : ℕ → ℕ → List ℕ → List ℕ → List ℕ → List ℕ → Chart
 chart n m bounds homes ranks tops = record { n = n; m = m; bounds = bounds; homes = homes; rank = ranks; top = tops }
 
@@ -25,6 +26,7 @@ locksOf t p = ofResource (p .serves) (t .resource) (t .n)
 unfoldable pub topsOf : Table → List ℕ
 topsOf t = cond (t .npp) (blank 64 0) (ofResource (t .ceiling) (t .resource) (t .n))
 
+-- the chart of a table and its plan
 unfoldable pub chartOf : Table → Plan → Chart
 chartOf t p =
     chart (t .n) (t .m)

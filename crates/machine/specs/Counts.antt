@@ -7,6 +7,7 @@ use Rattle.chain.specs.Job.{jobAt}
 use Rattle.chain.specs.Owed.{owes}
 pub use Rattle.machine.specs.declared.Tally.{Tally}
 
+-- the sums over n rows
 unfoldable pub tallyOf : ℕ → List Job → Tally
 tallyOf n js =
     record {

@@ -13,6 +13,7 @@ use Rattle.arrivals.specs.declared.Arrival.{Arrival}
 use Rattle.arrivals.specs.Seek.{GoodArrivals, Seek}
 use Rattle.machine.specs.Chart.{Chart}
 
+-- at most 16 processors, bounds within the longest period, and good homes and ranks
 pub record GoodChart (c : Chart) : Type 0 where
   pub processors : c .m ≤ 16
   pub bounded : GoodBounds (c .bounds)

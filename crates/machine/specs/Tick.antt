@@ -50,6 +50,7 @@ notedAt bounds t i x (Running j l) worst =
     worst
     (set worst (3 * i + j) (max (getD worst (3 * i + j) 0) (response bounds i t (x .arrived) j)))
 
+-- the same for a processor that runs this row, numbered from 1, or none
 unfoldable pub noted : List ℕ → ℕ → List Job → ℕ → List ℕ → List ℕ
 noted bounds t js zero worst = worst
 noted bounds t js (suc i) worst = notedAt bounds t i (jobAt js i) (jobAt js i .place) worst
@@ -85,6 +86,7 @@ module _ (c : Chart) where
   worse t js worst = notedTo (c .bounds) t js (picked js) (c .m) worst
 
   module _ (ar : Arrivals) where
+    -- one tick: the releases, then the units
     unfoldable pub step : ℕ → List Job → List Job
     step t js = units t (releases (c .n) (c .bounds) ar t js)
 

@@ -1,19 +1,16 @@
 -- Laws of the best row, of a test that every row passes, and of the best ceiling held.
-use Prim.Native.Nat.{ℕ, zero, suc, _+_, _≤_, _<_, zero-le, min}
-use mathlib.Core.Path.{_≡_, refl, sym, _∙_}
-use mathlib.Core.Bool.{Bool, true, false, cond, not, _&&_, _||_, true≢false, false≢true}
+use Prim.Native.Nat.{ℕ, zero, suc, _+_, _<_, min}
+use mathlib.Core.Path.{_≡_, refl, _∙_}
+use mathlib.Core.Bool.{Bool, true, false, cond, not, _&&_, _||_}
 use native.Mathlib.Omega.{arith}
 use native.Mathlib.Numerals.{add-one}
 use borrow.Author.Count.{below-more}
 use borrow.Author.Tests.{ltb-true, ltb-false, lt-ltb, le-ltb}
 use lib.Dec.{ltb}
+use Rattle.lists.proofs.Tests.{not-both, both}
 use Rattle.picks.specs.Best.{beat, best, every}
 use Rattle.picks.specs.Pick.{gtb}
 use Rattle.picks.specs.Offer.{Best, against, keyOf, bestOf, lowest}
-
--- a test does not both pass and fail
-pub not-both : {t : Bool} → t ≡ true → t ≡ false → ⊥
-not-both p q = true≢false (sym p ∙ q)
 
 -- what holds below n and at n holds below its successor
 below-suc : (P : ℕ → Type 0) (n : ℕ) → ((i : ℕ) → i < n → P i) → P n → (i : ℕ) → i < suc n → P i
@@ -24,6 +21,7 @@ pub record Order (ahead : ℕ → ℕ → Bool) : Type 0 where
   pub apart : (a : ℕ) → ahead a a ≡ false
   pub over : (a b c : ℕ) → ahead b a ≡ true → ahead c a ≡ false → ahead c b ≡ false
 
+-- the smaller key goes first, as a rank does
 pub smaller-first : Order ltb
 smaller-first =
     record {
@@ -31,6 +29,7 @@ smaller-first =
       over = λ a b c h l. le-ltb c b (omega (arith, ltb-true b a h, ltb-false c a l));
     }
 
+-- the larger one does, as the mark of a section begun later
 pub larger-first : Order gtb
 larger-first =
     record {
@@ -44,6 +43,7 @@ module _ (ahead : ℕ → ℕ → Bool) (test : ℕ → Bool) (key : ℕ → ℕ
   IsBest n zero = (i : ℕ) → i < n → test i ≡ false
   IsBest n (suc x) = (x < n) × (test x ≡ true) × ((i : ℕ) → i < n → test i ≡ true → ahead (key i) (key x) ≡ false)
 
+  -- the best row is what it is to be
   pub best-is : Order ahead → (n : ℕ) → IsBest n (best ahead test key n)
   unfolding best beat
   best-is ord zero = λ i l. absurd (omega arith)
@@ -60,18 +60,13 @@ module _ (ahead : ℕ → ℕ → Bool) (test : ℕ → Bool) (key : ℕ → ℕ
       go false e zero h = below-suc _ n h e
       go false e (suc x) h = (omega arith, h .1, below-suc _ n (h .2) (λ q. absurd (not-both q e)))
 
+  -- it passes the test,
   pub best-passes : Order ahead → (n x : ℕ) → best ahead test key n ≡ suc x → (x < n) × (test x ≡ true)
   best-passes ord n x e = let h = rw e at (best-is ord n) in (h .0, h .1)
 
+  -- and if there is none, no row does
   pub best-none : Order ahead → (n : ℕ) → best ahead test key n ≡ 0 → (i : ℕ) → i < n → test i ≡ false
   best-none ord n e = rw e at (best-is ord n)
-
-  pub best-le : Order ahead → (n : ℕ) → best ahead test key n ≤ n
-  best-le ord n = go (best ahead test key n) (best-is ord n)
-    where
-      go : (b : ℕ) → IsBest n b → b ≤ n
-      go zero h = zero-le
-      go (suc x) h = h .0
 
   -- no row that passes is ahead of the best: by `ltb-false`, key x ≤ key i for `ltb`, and key i ≤ key x for `gtb`
   pub best-first : Order ahead → (n x : ℕ) → best ahead test key n ≡ suc x → (i : ℕ) → i < n → test i ≡ true → ahead (key i) (key x) ≡ false
@@ -110,19 +105,15 @@ best-same {ahead} ord s t k l (suc n) tests keys =
     go true e (suc x) h = rw (keys n (omega arith) e, keys x (omega (arith, h .0)) (h .1))
     go false e b h = refl
 
--- both of two tests pass
-pub and-both : (a b : Bool) → (a && b) ≡ true → (a ≡ true) × (b ≡ true)
-and-both true b h = (refl, h)
-and-both false b h = absurd (false≢true h)
-
 -- each row passes exactly when all do
 pub every-at : (test : ℕ → Bool) (n : ℕ) → every n test ≡ true → (i : ℕ) → i < n → test i ≡ true
 unfolding every
 every-at test zero h i l = absurd (omega arith)
 every-at test (suc n) h i l =
-    let a = and-both (test n) (every n test) h in
+    let a = both (test n) (every n test) h in
     below-suc (λ k. test k ≡ true) n (every-at test n (a .1)) (a .0) i l
 
+-- all of them pass
 pub every-all : (test : ℕ → Bool) (n : ℕ) → ((i : ℕ) → i < n → test i ≡ true) → every n test ≡ true
 unfolding every
 every-all test zero h = refl
@@ -138,6 +129,7 @@ every-not test (suc n) h = go (test n) refl h (every-not test n)
     go true e k rest = let (i, l, f) = rest k in (i, omega arith, f)
     go false e k rest = (n, omega arith, e)
 
+-- tests that agree pass alike
 pub every-same : (s t : ℕ → Bool) (n : ℕ) → ((i : ℕ) → i < n → s i ≡ t i) → every n s ≡ every n t
 unfolding every
 every-same s t zero h = refl
@@ -153,10 +145,12 @@ ltb-min r a b = go (ltb r a) refl (ltb r b) refl
     go false d t e = le-ltb r (min a b) (omega (arith, ltb-false r a d))
 
 module _ (test : ℕ → Bool) (key : ℕ → ℕ) where
+  -- a row that fails changes nothing
   pub lowest-skip : (i : ℕ) → test i ≡ false → lowest test key (i + 1) ≡ lowest test key i
   unfolding lowest
   lowest-skip i h = rw (add-one, h)
 
+  -- one that passes counts
   pub lowest-more : (i : ℕ) → test i ≡ true → lowest test key (i + 1) ≡ min (key i) (lowest test key i)
   unfolding lowest
   lowest-more i h = rw (add-one, h)

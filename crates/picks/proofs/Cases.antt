@@ -1,19 +1,20 @@
 -- What a pick says of the rows, in its three cases: a section starts, the section begun last goes on, or there is no section.
 use Prim.Native.Nat.{ℕ, zero, suc, _≤_, _<_}
 use mathlib.Core.Path.{_≡_, refl, sym, _∙_, ap}
-use mathlib.Core.Bool.{Bool, true, false, cond, not, _||_}
+use mathlib.Core.Bool.{Bool, true, false, cond, not}
 use mathlib.Core.List.{List}
 use native.Mathlib.Decide.{ℕ-discrete}
 use native.Mathlib.Omega.{arith}
 use borrow.Author.Tests.{ltb-true, ltb-false, lt-ltb, eqb-true, eq-eqb, not-true, not-false}
 use lib.ListN.{getD}
 use lib.Dec.{ltb, eqb}
+use Rattle.lists.proofs.Tests.{not-both, both, neither}
 use Rattle.chain.specs.declared.Place.{Place}
 use Rattle.chain.specs.declared.Place.the-variants.{Idle, Waiting, Running}
 use Rattle.chain.specs.declared.Job.{Job}
 use Rattle.chain.specs.Job.{jobAt}
 use Rattle.picks.specs.Pick.{isSection, home, sectionOn, stageOn, chosen, waits, holds, ready, firstOn, lastOn, stageFor, clear, pick}
-use Rattle.picks.proofs.Bests.{not-both, and-both, smaller-first, larger-first, best-passes, best-none, best-first, every-at, every-not}
+use Rattle.picks.proofs.Bests.{smaller-first, larger-first, best-passes, best-none, best-first, every-at, every-not}
 
 -- the job's place is a released, unfinished section on processor q; a stage there
 pub record Section (homes : List ℕ) (q i : ℕ) (x : Job) : Type 0 where
@@ -29,6 +30,7 @@ pub record Stage (homes : List ℕ) (q i : ℕ) (x : Job) : Type 0 where
   pub on : home homes i part ≡ q
 
 module _ (homes : List ℕ) (q i : ℕ) (x : Job) where
+  -- the test for a section says so, and the other way round
   section-told : sectionOn homes q i (x .place) ≡ true → Section homes q i x
   unfolding sectionOn
   section-told = go (x .place) refl
@@ -37,7 +39,7 @@ module _ (homes : List ℕ) (q i : ℕ) (x : Job) where
       go Idle e h = absurd (not-both h refl)
       go (Waiting u j) e h = absurd (not-both h refl)
       go (Running j l) e h =
-          let (s, t) = and-both (isSection j) (eqb (home homes i j) q) h in
+          let (s, t) = both (isSection j) (eqb (home homes i j) q) h in
           let one : j ≡ 1 = eqb-true j 1 s in
           record { rest = l; at = e ∙ ap (λ (k : ℕ). Running k l) one; on = sym (ap (home homes i) one) ∙ eqb-true (home homes i j) q t }
 
@@ -45,6 +47,7 @@ module _ (homes : List ℕ) (q i : ℕ) (x : Job) where
   unfolding sectionOn
   told-section s = rw (s .at) (eq-eqb (home homes i 1) q (s .on))
 
+  -- and so does that for a stage
   stage-told : stageOn homes q i (x .place) ≡ true → Stage homes q i x
   unfolding stageOn
   stage-told = go (x .place) refl
@@ -53,7 +56,7 @@ module _ (homes : List ℕ) (q i : ℕ) (x : Job) where
       go Idle e h = absurd (not-both h refl)
       go (Waiting u j) e h = absurd (not-both h refl)
       go (Running j l) e h =
-          let (s, t) = and-both (not (isSection j)) (eqb (home homes i j) q) h in
+          let (s, t) = both (not (isSection j)) (eqb (home homes i j) q) h in
           record { part = j; rest = l; at = e; stage = not-true (isSection j) s; on = eqb-true (home homes i j) q t }
 
   told-stage : Stage homes q i x → stageOn homes q i (x .place) ≡ true
@@ -61,6 +64,7 @@ module _ (homes : List ℕ) (q i : ℕ) (x : Job) where
   told-stage s = rw (s .at, s .stage) (eq-eqb (home homes i (s .part)) q (s .on))
 
 module _ (homes ranks tops : List ℕ) (n : ℕ) (js : List Job) (q : ℕ) where
+  -- what the row o that the processor picks is, 0 for none
   pub data Picks (o : ℕ) : Type 0 where
     -- the best section not yet begun starts, ranked above the ceilings of all that is held
     starting : (x : ℕ) → o ≡ suc x → x < n → Section homes q x (jobAt js x) → jobAt js x .begun ≡ 0
@@ -84,7 +88,7 @@ module _ (homes ranks tops : List ℕ) (n : ℕ) (js : List Job) (q : ℕ) where
   waits-told : (i : ℕ) → waits homes ranks tops n js q i ≡ true → Section homes q i (jobAt js i) × (jobAt js i .begun ≡ 0)
   unfolding waits
   waits-told i h =
-      let (s, b) = and-both (sectionOn homes q i (jobAt js i .place)) (eqb (jobAt js i .begun) 0) h in
+      let (s, b) = both (sectionOn homes q i (jobAt js i .place)) (eqb (jobAt js i .begun) 0) h in
       (section-told homes q i (jobAt js i) s, eqb-true (jobAt js i .begun) 0 b)
 
   told-waits : (i : ℕ) → Section homes q i (jobAt js i) → jobAt js i .begun ≡ 0 → waits homes ranks tops n js q i ≡ true
@@ -94,7 +98,7 @@ module _ (homes ranks tops : List ℕ) (n : ℕ) (js : List Job) (q : ℕ) where
   holds-told : (i : ℕ) → holds homes ranks tops n js q i ≡ true → Section homes q i (jobAt js i) × (1 ≤ jobAt js i .begun)
   unfolding holds
   holds-told i h =
-      let (s, b) = and-both (sectionOn homes q i (jobAt js i .place)) (ltb 0 (jobAt js i .begun)) h in
+      let (s, b) = both (sectionOn homes q i (jobAt js i .place)) (ltb 0 (jobAt js i .begun)) h in
       (section-told homes q i (jobAt js i) s, ltb-true 0 (jobAt js i .begun) b)
 
   told-holds : (i : ℕ) → Section homes q i (jobAt js i) → 1 ≤ jobAt js i .begun → holds homes ranks tops n js q i ≡ true
@@ -110,6 +114,7 @@ module _ (homes ranks tops : List ℕ) (n : ℕ) (js : List Job) (q : ℕ) where
       let (s, b) = waits-told x h in
       (l, s, b, λ i k t z. ltb-false _ _ (best-first _ _ _ smaller-first n x e i k (told-waits i t z)))
 
+  -- where there is none, none waits
   first-none : firstOn homes ranks tops n js q ≡ 0 → (i : ℕ) → i < n → Section homes q i (jobAt js i) → jobAt js i .begun ≡ 0 → ⊥
   unfolding firstOn
   first-none e i l s b = not-both (told-waits i s b) (best-none _ _ _ smaller-first n e i l)
@@ -123,6 +128,7 @@ module _ (homes ranks tops : List ℕ) (n : ℕ) (js : List Job) (q : ℕ) where
       let (s, b) = holds-told y h in
       (l, s, b, λ i k t z. ltb-false _ _ (best-first _ _ _ larger-first n y e i k (told-holds i t z)))
 
+  -- where there is none, none is held
   last-none : lastOn homes ranks tops n js q ≡ 0 → (i : ℕ) → i < n → Section homes q i (jobAt js i) → 1 ≤ jobAt js i .begun → ⊥
   unfolding lastOn
   last-none e i l s b = not-both (told-holds i s b) (best-none _ _ _ larger-first n e i l)
@@ -132,6 +138,7 @@ module _ (homes ranks tops : List ℕ) (n : ℕ) (js : List Job) (q : ℕ) where
   unfolding clear
   clear-told x h i l e = ltb-true _ _ (rw e at (every-at _ n h i l))
 
+  -- where it is not, a ceiling that is held stops it
   clear-not : (x : ℕ) → clear homes ranks tops n js q (suc x) ≡ false → (d : ℕ) × (d < n) × Section homes q d (jobAt js d) × (1 ≤ jobAt js d .begun) × (getD tops d 0 ≤ getD ranks x 0)
   unfolding clear
   clear-not x e =
@@ -139,16 +146,13 @@ module _ (homes ranks tops : List ℕ) (n : ℕ) (js : List Job) (q : ℕ) where
       let (h, above) = neither _ _ f in
       let (s, b) = holds-told d (not-false _ h) in
       (d, l, s, b, ltb-false _ _ above)
-    where
-      neither : (a b : Bool) → (a || b) ≡ false → (a ≡ false) × (b ≡ false)
-      neither true b k = absurd (not-both refl k)
-      neither false b k = (refl, k)
 
   -- the rule for sections, where there is one
   starts-first : (x : ℕ) → firstOn homes ranks tops n js q ≡ suc x
       → ((i : ℕ) → i < n → Section homes q i (jobAt js i) → 1 ≤ jobAt js i .begun → getD ranks x 0 < getD tops i 0) → Picks (suc x)
   starts-first x e above = let (l, s, b, best) = first-told x e in starting x refl l s b best above
 
+  -- the section begun last goes on
   goes-last : (y : ℕ) → lastOn homes ranks tops n js q ≡ suc y
       → ((i : ℕ) → i < n → Section homes q i (jobAt js i) → jobAt js i .begun ≡ 0
       → (d : ℕ) × (d < n) × Section homes q d (jobAt js d) × (1 ≤ jobAt js d .begun) × (getD tops d 0 ≤ getD ranks i 0))
@@ -172,6 +176,7 @@ module _ (homes ranks tops : List ℕ) (n : ℕ) (js : List Job) (q : ℕ) where
       staged x refl l none (stage-told homes q x (jobAt js x) h)
       (λ i k s. ltb-false _ _ (best-first _ _ _ smaller-first n x e i k (told-stage homes q i (jobAt js i) s)))
 
+  -- the pick is one of the cases
   pub pick-says : Picks (pick homes ranks tops n js q)
   unfolding pick chosen
   pick-says = go (firstOn homes ranks tops n js q) refl (lastOn homes ranks tops n js q) refl

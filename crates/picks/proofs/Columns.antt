@@ -20,7 +20,7 @@ use Rattle.picks.specs.Offer.{Best, nobody, against, keyOf, bestOf, lowe
 use Rattle.picks.proofs.Bests.{best-skip, best-more, lowest-skip, lowest-more}
 
 -- an array with f at each processor's number
-abbrev pub Column : {A : Type 0} → A → (ℕ → A) → List A → Type 0
+abbrev Column : {A : Type 0} → A → (ℕ → A) → List A → Type 0
 Column d f l = (length l ≡ 17) × ((q : ℕ) → q < 17 → getD l q d ≡ f q)
 
 -- a test that no processor passes; one that p alone passes
@@ -31,12 +31,13 @@ abbrev Only : ℕ → (ℕ → Bool) → Type 0
 Only p test = (test p ≡ true) × ((q : ℕ) → (q ≡ p → ⊥) → test q ≡ false)
 
 module _ {A : Type 0} (d : A) (f g : ℕ → A) (l : List A) where
+  -- the same at each processor
   column-same : ((q : ℕ) → g q ≡ f q) → Column d f l → Column d g l
   column-same same (long, all) = (long, λ q b. all q b ∙ sym (same q))
 
   -- a store at p
-  column-set : (p : ℕ) (x : A) → p < 17 → x ≡ g p → ((q : ℕ) → (q ≡ p → ⊥) → g q ≡ f q) → Column d f l → Column d g (set l p x)
-  column-set p x h e same (long, all) = (
+  column-set : (p : ℕ) (x : A) → x ≡ g p → ((q : ℕ) → (q ≡ p → ⊥) → g q ≡ f q) → Column d f l → Column d g (set l p x)
+  column-set p x e same (long, all) = (
     length-set l p x ∙ long,
     λ q b.
         dite (ℕ-discrete q p)
@@ -46,26 +47,29 @@ module _ {A : Type 0} (d : A) (f g : ℕ → A) (l : List A) where
 
 -- the column of the best rows, and that of the best ceilings, once row i is in
 module _ (test : ℕ → ℕ → Bool) (key : ℕ → ℕ) (i : ℕ) where
+  -- a row that is on no processor changes nothing;
   bests-off : (ahead : ℕ → ℕ → Bool) (none : ℕ) (l : List Best) → Off (λ q. test q i)
       → Column (nobody 0) (λ q. bestOf ahead none (test q) key i) l → Column (nobody 0) (λ q. bestOf ahead none (test q) key (i + 1)) l
   bests-off ahead none l off = column-same (nobody 0) _ _ l (λ q. best-skip ahead (test q) key none i (off q))
 
+  -- one that is on processor p is set against the best there
   bests-on : (ahead : ℕ → ℕ → Bool) (none : ℕ) (l : List Best) (p : ℕ) (x : Best) → p < 17 → ahead (key i) none ≡ true → Only p (λ q. test q i)
       → x ≡ against ahead (getD l p (nobody 0)) i (key i)
       → Column (nobody 0) (λ q. bestOf ahead none (test q) key i) l → Column (nobody 0) (λ q. bestOf ahead none (test q) key (i + 1)) (set l p x)
   bests-on ahead none l p x h first (on, off) e col =
-      column-set (nobody 0) _ _ l p x h
+      column-set (nobody 0) _ _ l p x
       (e ∙ ap (λ (b : Best). against ahead b i (key i)) (col .1 p h) ∙ sym (best-more ahead (test p) key none i on first))
       (λ q k. best-skip ahead (test q) key none i (off q k))
       col
 
+  -- the same of the ceilings held
   lowest-off : (l : List ℕ) → Off (λ q. test q i) → Column 0 (λ q. lowest (test q) key i) l → Column 0 (λ q. lowest (test q) key (i + 1)) l
   lowest-off l off = column-same 0 _ _ l (λ q. lowest-skip (test q) key i (off q))
 
   lowest-on : (l : List ℕ) (p x : ℕ) → p < 17 → Only p (λ q. test q i) → x ≡ min (key i) (getD l p 0)
       → Column 0 (λ q. lowest (test q) key i) l → Column 0 (λ q. lowest (test q) key (i + 1)) (set l p x)
   lowest-on l p x h (on, off) e col =
-      column-set 0 _ _ l p x h
+      column-set 0 _ _ l p x
       (e ∙ ap (min (key i)) (col .1 p h) ∙ sym (lowest-more (test p) key i on))
       (λ q k. lowest-skip (test q) key i (off q k))
       col
@@ -83,6 +87,7 @@ off-all homes q i (Running j l) rests = absurd (rests j l refl)
 
 -- a place that runs part j on the processor p
 module _ (homes : List ℕ) (i j l p : ℕ) {x : Place} (at : x ≡ Running j l) (home-is : p ≡ home homes i j) where
+  -- a section is no stage, and a stage is one on its processor alone
   stage-off : j ≡ 1 → Off (λ q. stageOn homes q i x)
   unfolding stageOn
   stage-off e q = ap (λ (y : Place). stageOn homes q i y) at ∙ rw (eq-eqb j 1 e)
@@ -91,13 +96,16 @@ module _ (homes : List ℕ) (i j l p : ℕ) {x : Place} (at : x ≡ Running j l)
   unfolding stageOn
   stage-on k = only (λ q. ap (λ (y : Place). stageOn homes q i y) at ∙ rw (ne-eqb j 1 k, sym home-is))
 
+  -- when it is a section on q
   section-at : (q : ℕ) → sectionOn homes q i x ≡ (eqb j 1 && eqb p q)
   unfolding sectionOn
   section-at q = ap (λ (y : Place). sectionOn homes q i y) at ∙ rw home-is
 
+  -- a section that passes a test of its mark is one on its processor alone,
   section-on : j ≡ 1 → (b : Bool) → b ≡ true → Only p (λ q. sectionOn homes q i x && b)
   section-on e b h = only (λ q. rw (section-at q, eq-eqb j 1 e, h) (and-true (eqb p q)))
 
+  -- and a place that does not is one on none
   section-off : (b : Bool) → (eqb j 1 && b) ≡ false → Off (λ q. sectionOn homes q i x && b)
   section-off b h q = rw (section-at q) (go (eqb j 1) (eqb p q) h)
     where
@@ -108,6 +116,7 @@ module _ (homes : List ℕ) (i j l p : ℕ) {x : Place} (at : x ≡ Running j l)
 
 -- what each processor has to choose from among the first i rows
 module _ (homes ranks tops : List ℕ) (n : ℕ) (js : List Job) where
+  -- the arrays that hold it
   pub record Columns (i : ℕ) (first last stage : List Best) (held : List ℕ) : Type 0 where
     pub firsts : Column (nobody 0) (λ q. bestOf ltb 64 (waits homes ranks tops n js q) (λ k. getD ranks k 0) i) first
     pub lasts : Column (nobody 0) (λ q. bestOf gtb 0 (holds homes ranks tops n js q) (λ k. jobAt js k .begun) i) last
@@ -122,6 +131,7 @@ module _ (homes ranks tops : List ℕ) (n : ℕ) (js : List Job) where
       blank : {A : Type 0} {d : A} (z : A) → Column d (λ q. z) (replicate 17 z)
       blank z = (length-replicate 17 z, λ q b. getD-replicate 17 q z _ b)
 
+  -- equal arrays hold the same
   pub columns-same : (i : ℕ) {first last stage first' last' stage' : List Best} {held held' : List ℕ} → first' ≡ first → last' ≡ last → stage' ≡ stage → held' ≡ held
       → Columns i first last stage held → Columns i first' last' stage' held'
   columns-same i a b c d x = rw (a, b, c, d) x
@@ -148,12 +158,14 @@ module _ (homes ranks tops : List ℕ) (n : ℕ) (js : List Job) where
 
     -- a row that runs a part on the processor p: a stage, a section not yet begun, or one that is begun
     module _ (j l p : ℕ) (at : x .place ≡ Running j l) (home-is : p ≡ home homes i j) (few : p ≤ 16) where
+      -- the place and the mark of the row's job
       place-at : jobAt js i .place ≡ Running j l
       place-at = ap (λ (y : Job). y .place) job-is ∙ at
 
       begun-at : jobAt js i .begun ≡ x .begun
       begun-at = ap (λ (y : Job). y .begun) job-is
 
+      -- a stage
       pub columns-stage : (b : Best) → (j ≡ 1 → ⊥) → getD ranks i 0 < 64 → b ≡ against ltb (getD stage p (nobody 0)) i (getD ranks i 0) → Columns (i + 1) first last (set stage p b) held
       unfolding waits holds ready
       columns-stage b k ranked e =
@@ -167,6 +179,7 @@ module _ (homes ranks tops : List ℕ) (n : ℕ) (js : List Job) where
           off : (t : Bool) → Off (λ q. sectionOn homes q i (jobAt js i .place) && t)
           off t = section-off homes i j l p place-at home-is t (rw (ne-eqb j 1 k))
 
+      -- a section not yet begun
       pub columns-first : (b : Best) → j ≡ 1 → x .begun ≡ 0 → getD ranks i 0 < 64 → b ≡ against ltb (getD first p (nobody 0)) i (getD ranks i 0) → Columns (i + 1) (set first p b) last stage held
       unfolding waits holds ready
       columns-first b k free ranked e =
@@ -180,6 +193,7 @@ module _ (homes ranks tops : List ℕ) (n : ℕ) (js : List Job) where
           off : Off (λ q. sectionOn homes q i (jobAt js i .place) && ltb 0 (jobAt js i .begun))
           off = section-off homes i j l p place-at home-is _ (rw (le-ltb 0 (jobAt js i .begun) (omega (arith, begun-at))) (and-false (eqb j 1)))
 
+      -- a section that is begun
       pub columns-held : (b : Best) (t : ℕ) → j ≡ 1 → (x .begun ≡ 0 → ⊥) → b ≡ against gtb (getD last p (nobody 0)) i (x .begun) → t ≡ min (getD tops i 0) (getD held p 0)
           → Columns (i + 1) first (set last p b) stage (set held p t)
       unfolding waits holds ready

@@ -1,5 +1,5 @@
 -- What a processor runs, in the paper's words, and what the choice depends on.
-use Prim.Native.Nat.{ℕ, zero, suc, _≤_, _<_}
+use Prim.Native.Nat.{ℕ, zero, suc, _<_}
 use mathlib.Core.Path.{_≡_, refl, sym, _∙_, ap}
 use mathlib.Core.Bool.{Bool, true, false, not, _&&_, _||_, or-true}
 use mathlib.Core.List.{List}
@@ -7,6 +7,7 @@ use native.Mathlib.Omega.{arith}
 use borrow.Author.Tests.{ltb-false, lt-ltb, eqb-true, eqb-false}
 use lib.ListN.{getD}
 use lib.Dec.{ltb, eqb}
+use Rattle.lists.proofs.Tests.{not-both, both}
 use Rattle.chain.specs.declared.Place.{Place}
 use Rattle.chain.specs.declared.Place.the-variants.{Idle, Waiting, Running}
 use Rattle.chain.specs.declared.Job.{Job}
@@ -14,7 +15,7 @@ use Rattle.chain.specs.Job.{jobAt}
 use Rattle.picks.specs.Pick.{gtb, home, sectionOn, stageOn, chosen, waits, holds, ready, firstOn, lastOn, stageFor, clear, pick}
 use Rattle.picks.specs.Offer.{Best, keyOf, lowest, Offered}
 use Rattle.picks.proofs.Cases.{clear-told}
-use Rattle.picks.proofs.Bests.{not-both, and-both, smaller-first, larger-first, best-passes, best-none, best-le, best-same, every-all, every-same, below-lowest}
+use Rattle.picks.proofs.Bests.{smaller-first, larger-first, best-passes, best-none, best-same, every-all, every-same, below-lowest}
 
 -- a stage is chosen where there is no section; the best section not yet begun, if none is begun or it is clear; and otherwise the one begun last
 pub chosen-stage : (x y s : ℕ) (b : Bool) → x ≡ 0 → y ≡ 0 → chosen x y s b ≡ s
@@ -58,6 +59,7 @@ pub record Runs (homes : List ℕ) (js : List Job) (q i : ℕ) : Type 0 where
   pub place-is : jobAt js i .place ≡ Running part left
   pub home-is : home homes i part ≡ q
 
+-- a part on processor q runs there
 on-runs : (homes : List ℕ) (js : List Job) (q i : ℕ) → (sectionOn homes q i (jobAt js i .place) || stageOn homes q i (jobAt js i .place)) ≡ true → Runs homes js q i
 unfolding sectionOn stageOn
 on-runs homes js q i = go (jobAt js i .place) refl
@@ -73,10 +75,7 @@ on-runs homes js q i = go (jobAt js i .place) refl
     go (Running j l) e h = record { part = j; left = l; place-is = e; home-is = eqb-true (home homes i j) q (there (eqb j 1) _ h) }
 
 module _ (homes ranks tops : List ℕ) (n : ℕ) (js : List Job) (q : ℕ) where
-  pub pick-le : pick homes ranks tops n js q ≤ n
-  unfolding pick firstOn lastOn stageFor
-  pick-le = chosen-one (λ r. r ≤ n) _ _ _ _ (best-le ltb _ _ smaller-first n) (best-le gtb _ _ larger-first n) (best-le ltb _ _ smaller-first n)
-
+  -- a row that is picked runs a part there
   pub pick-runs : (i : ℕ) → pick homes ranks tops n js q ≡ suc i → (i < n) × Runs homes js q i
   unfolding pick firstOn lastOn stageFor waits holds ready
   pick-runs =
@@ -86,7 +85,7 @@ module _ (homes ranks tops : List ℕ) (n : ℕ) (js : List Job) (q : ℕ) where
       (λ i e. let (l, h) = best-passes ltb _ _ smaller-first n i e in (l, on-runs homes js q i (rw h (or-true (sectionOn homes q i (jobAt js i .place))))))
     where
       section-runs : (i : ℕ) (b : Bool) → (sectionOn homes q i (jobAt js i .place) && b) ≡ true → Runs homes js q i
-      section-runs i b h = on-runs homes js q i (rw (and-both (sectionOn homes q i (jobAt js i .place)) b h .0))
+      section-runs i b h = on-runs homes js q i (rw (both (sectionOn homes q i (jobAt js i .place)) b h .0))
 
   -- a processor that runs nothing has nothing to run
   pub idle-none : pick homes ranks tops n js q ≡ 0 → (i : ℕ) → i < n → (sectionOn homes q i (jobAt js i .place) ≡ false) × (stageOn homes q i (jobAt js i .place) ≡ false)
@@ -100,9 +99,10 @@ module _ (homes ranks tops : List ℕ) (n : ℕ) (js : List Job) (q : ℕ) where
       neither false b h k = refl
 
   -- "its rank is strictly better than the ceilings of all resources held there"
-  abbrev pub Clear : ℕ → Type 0
+  abbrev Clear : ℕ → Type 0
   Clear x = (i : ℕ) → i < n → holds homes ranks tops n js q i ≡ true → getD ranks x 0 < getD tops i 0
 
+  -- as the test has it
   clear-yes : (x : ℕ) → Clear x → clear homes ranks tops n js q (suc x) ≡ true
   unfolding clear
   clear-yes x h = every-all _ n (λ i l. go i l (holds homes ranks tops n js q i) refl)
@@ -117,6 +117,7 @@ module _ (homes ranks tops : List ℕ) (n : ℕ) (js : List Job) (q : ℕ) where
   unfolding pick
   starts-clear x e h = rw e (chosen-first (suc x) _ _ _ (λ d. omega arith) (λ d. clear-yes x h))
 
+  -- nothing begun is unfinished there
   pub starts-free : (x : ℕ) → firstOn homes ranks tops n js q ≡ suc x → lastOn homes ranks tops n js q ≡ 0 → pick homes ranks tops n js q ≡ suc x
   unfolding lastOn
   starts-free x e d = starts-clear x e (λ i l h. absurd (not-both h (best-none gtb _ _ larger-first n d i l)))
@@ -134,14 +135,16 @@ module _ (homes ranks tops : List ℕ) (n : ℕ) (js : List Job) (q : ℕ) where
       blocked zero d = refl
       blocked (suc x) d = told x d (clear homes ranks tops n js q (suc x)) refl
 
-  -- NPP, where every ceiling is 0: "a begun section runs to its end; then the best-ranked one starts"
+  -- NPP, where every ceiling is 0
   module _ (flat : (i : ℕ) → i < n → getD tops i 0 ≡ 0) where
+    -- "a begun section runs to its end;
     pub npp-begun-runs : (y : ℕ) → lastOn homes ranks tops n js q ≡ suc y → pick homes ranks tops n js q ≡ suc y
     unfolding lastOn
     npp-begun-runs y e =
         let (l, h) = best-passes gtb _ _ larger-first n y e in
         begun-last-runs y e (λ x d c. omega (arith, flat y l, c y l h))
 
+    -- then the best-ranked one starts"
     pub npp-best-starts : (x : ℕ) → lastOn homes ranks tops n js q ≡ 0 → firstOn homes ranks tops n js q ≡ suc x → pick homes ranks tops n js q ≡ suc x
     npp-best-starts x d e = starts-free x e d
 
@@ -168,10 +171,11 @@ pub record Alike (homes : List ℕ) (q : ℕ) (js ks : List Job) (i : ℕ) : Typ
 pub section-here : (homes : List ℕ) (q i j l : ℕ) → sectionOn homes q i (Running j l) ≡ true → (j ≡ 1) × (home homes i j ≡ q)
 unfolding sectionOn
 section-here homes q i j l h =
-    let (s, there) = and-both (eqb j 1) (eqb (home homes i j) q) h in
+    let (s, there) = both (eqb j 1) (eqb (home homes i j) q) h in
     (eqb-true j 1 s, eqb-true (home homes i j) q there)
 
 module _ (homes : List ℕ) (q : ℕ) (js ks : List Job) (i : ℕ) where
+  -- equal jobs are alike
   pub alike-job : jobAt js i ≡ jobAt ks i → Alike homes q js ks i
   alike-job e =
       record {
@@ -200,18 +204,21 @@ test-same homes js ks q i alike f = rw (alike .section) (go (sectionOn homes q i
 
 -- a pick depends on nothing else
 module _ (homes ranks tops : List ℕ) (n : ℕ) (js ks : List Job) (q : ℕ) (alike : (i : ℕ) → i < n → Alike homes q js ks i) where
+  -- so the tests say the same,
   tests-same : (f : ℕ → Bool) (i : ℕ) → i < n → (sectionOn homes q i (jobAt js i .place) && f (jobAt js i .begun)) ≡ (sectionOn homes q i (jobAt ks i .place) && f (jobAt ks i .begun))
   tests-same f i l = test-same homes js ks q i (alike i l) f
 
+  -- and so does the test for a start,
   clear-same : (x : ℕ) → clear homes ranks tops n js q x ≡ clear homes ranks tops n ks q x
   unfolding clear holds
   clear-same zero = refl
   clear-same (suc x) = every-same _ _ n (λ i l. ap (λ (t : Bool). not t || ltb (getD ranks x 0) (getD tops i 0)) (tests-same (ltb 0) i l))
 
+  -- and the pick is the same
   pub pick-same : pick homes ranks tops n js q ≡ pick homes ranks tops n ks q
   unfolding pick firstOn lastOn stageFor waits holds ready
   pick-same =
       let first = best-same smaller-first (waits homes ranks tops n js q) (waits homes ranks tops n ks q) (λ i. getD ranks i 0) (λ i. getD ranks i 0) n (tests-same (λ b. eqb b 0)) (λ i l h. refl) in
-      let last = best-same larger-first (holds homes ranks tops n js q) (holds homes ranks tops n ks q) (λ i. jobAt js i .begun) (λ i. jobAt ks i .begun) n (tests-same (ltb 0)) (λ i l h. alike i l .begun (and-both _ (ltb 0 (jobAt ks i .begun)) h .0)) in
+      let last = best-same larger-first (holds homes ranks tops n js q) (holds homes ranks tops n ks q) (λ i. jobAt js i .begun) (λ i. jobAt ks i .begun) n (tests-same (ltb 0)) (λ i l h. alike i l .begun (both _ (ltb 0 (jobAt ks i .begun)) h .0)) in
       let stage = best-same smaller-first (ready homes ranks tops n js q) (ready homes ranks tops n ks q) (λ i. getD ranks i 0) (λ i. getD ranks i 0) n (λ i l. alike i l .stage) (λ i l h. refl) in
       rw (first, last, stage) (ap (chosen _ _ _) (clear-same _))

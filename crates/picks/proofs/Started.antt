@@ -9,12 +9,13 @@ use native.Mathlib.Decide.{ℕ-discrete}
 use borrow.Author.Tests.{ltb-true, ltb-false, lt-ltb, eqb-true, eqb-false}
 use lib.ListN.{getD}
 use lib.Dec.{ltb, eqb}
+use Rattle.lists.proofs.Tests.{not-both, both}
 use Rattle.chain.specs.declared.Place.{Place}
 use Rattle.chain.specs.declared.Place.the-variants.{Idle, Waiting, Running}
 use Rattle.chain.specs.declared.Job.{Job}
 use Rattle.chain.specs.Job.{jobAt}
 use Rattle.picks.specs.Pick.{gtb, home, sectionOn, stageOn, waits, holds, ready, firstOn, lastOn, stageFor, pick}
-use Rattle.picks.proofs.Bests.{not-both, and-both, smaller-first, larger-first, IsBest, best-is, best-passes, best-first}
+use Rattle.picks.proofs.Bests.{smaller-first, larger-first, IsBest, best-is, best-passes, best-first}
 use Rattle.picks.proofs.Picked.{chosen-one, Alike, test-same, begun-last-runs}
 
 -- a section is no stage
@@ -41,18 +42,19 @@ module _ (homes ranks tops : List ℕ) (n : ℕ) (js ks : List Job) (q x : ℕ) 
   first-is : firstOn homes ranks tops n js q ≡ suc x
   unfolding pick lastOn stageFor waits holds ready
   first-is =
-      let (on, z) = and-both (sectionOn homes q x (jobAt js x .place)) (eqb (jobAt js x .begun) 0) free in
+      let (on, z) = both (sectionOn homes q x (jobAt js x .place)) (eqb (jobAt js x .begun) 0) free in
       let f = firstOn homes ranks tops n js q in
       chosen-one (λ r. r ≡ suc x → f ≡ suc x) f (lastOn homes ranks tops n js q) (stageFor homes ranks tops n js q) _
       (λ e. e)
       (λ e.
-      let h = and-both (sectionOn homes q x (jobAt js x .place)) (ltb 0 (jobAt js x .begun)) (best-passes gtb _ _ larger-first n x e .1) in
+      let h = both (sectionOn homes q x (jobAt js x .place)) (ltb 0 (jobAt js x .begun)) (best-passes gtb _ _ larger-first n x e .1) in
       absurd (omega (arith, eqb-true (jobAt js x .begun) 0 z, ltb-true 0 (jobAt js x .begun) (h .1))))
       (λ e. absurd (not-stage homes q x (jobAt js x .place) on (best-passes ltb _ _ smaller-first n x e .1)))
       picks
 
   module _ (on : sectionOn homes q x (jobAt ks x .place) ≡ true) (alike : (i : ℕ) → i < n → (i ≡ x → ⊥) → Alike homes q ks js i)
       (after : (i : ℕ) → i < n → jobAt js i .begun < jobAt ks x .begun) where
+    -- it is one of n rows, and holds its resource in ks
     below : x < n
     unfolding firstOn
     below = best-passes ltb _ _ smaller-first n x first-is .0
@@ -73,7 +75,7 @@ module _ (homes ranks tops : List ℕ) (n : ℕ) (js ks : List Job) (q x : ℕ) 
             (λ e. ap suc e)
             (λ k.
             let a = alike y l k in
-            let on = and-both (sectionOn homes q y (jobAt ks y .place)) (ltb 0 (jobAt ks y .begun)) h .0 in
+            let on = both (sectionOn homes q y (jobAt ks y .place)) (ltb 0 (jobAt ks y .begun)) h .0 in
             absurd (omega (arith, after y l, a .begun (sym (a .section) ∙ on), ltb-false (jobAt ks y .begun) (jobAt ks x .begun) (first x below held))))
 
     -- a section that waits there has waited before, and is no better ranked
@@ -84,7 +86,7 @@ module _ (homes ranks tops : List ℕ) (n : ℕ) (js ks : List Job) (q x : ℕ) 
         go : (z : ℕ) → firstOn homes ranks tops n ks q ≡ suc z → getD ranks z 0 < getD tops x 0 → ⊥
         go z e less =
             let (l, w) = best-passes ltb _ _ smaller-first n z e in
-            let none = and-both (sectionOn homes q z (jobAt ks z .place)) (eqb (jobAt ks z .begun) 0) w .1 in
+            let none = both (sectionOn homes q z (jobAt ks z .place)) (eqb (jobAt ks z .begun) 0) w .1 in
             let apart : z ≡ x → ⊥ = λ d. omega (arith, after x below, eqb-true (jobAt ks z .begun) 0 none, ap (λ i. jobAt ks i .begun) d) in
             let was = sym (test-same homes ks js q z (alike z l apart) (λ b. eqb b 0)) ∙ w in
             omega (arith, ltb-false (getD ranks z 0) (getD ranks x 0) (best-first ltb _ _ smaller-first n x first-is z l was))

@@ -24,6 +24,7 @@ unfoldable pub keyOf : ℕ → (ℕ → ℕ) → ℕ → ℕ
 keyOf none key zero = none
 keyOf none key (suc x) = key x
 
+-- the best row with its key; `none` is the key of none
 abbrev pub bestOf : (ℕ → ℕ → Bool) → ℕ → (ℕ → Bool) → (ℕ → ℕ) → ℕ → Best
 bestOf ahead none test key n = record { row = best ahead test key n; key = keyOf none key (best ahead test key n) }
 
@@ -33,6 +34,7 @@ lowest test key zero = 64
 lowest test key (suc i) = cond (test i) (min (key i) (lowest test key i)) (lowest test key i)
 
 module _ (homes ranks tops : List ℕ) (js : List Job) (n : ℕ) where
+  -- what processor q has to choose from: the best section not yet begun, the one begun last, the best stage, and the best ceiling held
   pub record Offered (first last stage : Best) (held q : ℕ) : Type 0 where
     pub first-is : first ≡ bestOf ltb 64 (waits homes ranks tops n js q) (λ i. getD ranks i 0) n
     pub last-is : last ≡ bestOf gtb 0 (holds homes ranks tops n js q) (λ i. jobAt js i .begun) n

@@ -11,6 +11,7 @@ use Rattle.chain.specs.declared.Job.{Job}
 use Rattle.chain.specs.Job.{jobAt}
 use Rattle.picks.specs.Best.{best, every}
 
+-- the larger one goes first
 abbrev pub gtb : ℕ → ℕ → Bool
 gtb x y = ltb y x
 
@@ -48,6 +49,7 @@ module _ (homes ranks tops : List ℕ) (n : ℕ) (js : List Job) where
   unfoldable pub holds : ℕ → ℕ → Bool
   holds q i = sectionOn homes q i (jobAt js i .place) && ltb 0 (jobAt js i .begun)
 
+  -- a released, unfinished stage
   unfoldable pub ready : ℕ → ℕ → Bool
   ready q i = stageOn homes q i (jobAt js i .place)
 

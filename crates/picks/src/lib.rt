@@ -1,6 +1,6 @@
 // What each processor runs in a tick, from one pass over the rows.
 ghost use mathlib.Core.Path.{_≡_};
-ghost use Prim.Native.Nat.{ℕ, _<_, _≤_, min};
+ghost use Prim.Native.Nat.{ℕ, _<_, _≤_};
 ghost use lib.ListN.{length, getD};
 ghost use lib.Dec.{ltb};
 ghost use Rattle.lists.specs.Tab.{tab};
@@ -11,18 +11,18 @@ ghost use Rattle.picks.specs.Good.{GoodHomes, GoodPlaces};
 use chain::Place;
 
 // A row, numbered from 1, and its key; row 0 is none.
-pub struct Best {
-    pub row: u32,
-    pub key: u32,
+struct Best {
+    row: u32,
+    key: u32,
 }
 
 // For each processor, at its number: the best section not yet begun, the section begun last, the best stage, and the best
 // ceiling held.
-pub struct Offers {
-    pub first: [Best; 17],
-    pub last: [Best; 17],
-    pub stage: [Best; 17],
-    pub held: [u32; 17],
+struct Offers {
+    first: [Best; 17],
+    last: [Best; 17],
+    stage: [Best; 17],
+    held: [u32; 17],
 }
 
 // Row i in place of the best so far, if its key is smaller.
@@ -51,13 +51,6 @@ fn larger_key(b: Best, i: usize, key: u32) -> Best
         };
     }
     b
-}
-
-// The smaller of two numbers.
-fn smaller(x: u32, y: u32) -> u32
-    ensures { λ r. ⌜ r ≡ min x y ⌝ }
-{
-    if x < y { x } else { y }
 }
 
 // The processor of a part of row i.
@@ -99,7 +92,7 @@ fn look_over(
             } else {
                 let b = last[q];
                 last[q] = larger_key(b, i, x.begun);
-                held[q] = smaller(top[i], held[q]);
+                held[q] = lists::smaller(top[i], held[q]);
             }
         }
     }

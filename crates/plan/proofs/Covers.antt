@@ -63,6 +63,7 @@ module _ (t : Table) (g : GoodTable t) (s : ℕ) (whole : (t .n ≤ sections (ta
   unfolding tasksOf weighed stages stagesOf stagesTo
   task-placed k l = stages-placed (tasksOf t .period) (tasksOf t .c1) (tasksOf t .c2) (tasksOf t .work) (sections (tasksOf t) s .bound) s (t .m) (t .n) k (g .rows .1) (omega arith)
 
+  -- so the bounds of row i are what they are to be
   trial-bounds : (i : ℕ) → i < t .n → RowBounds t (planIn (tasksOf t) s) i
   unfolding planBy tasksOf weighed
   trial-bounds i l =

@@ -6,6 +6,7 @@ use mathlib.Core.Logic.{_↔_, dite}
 use native.Mathlib.Omega.{arith}
 use native.Mathlib.Decide.{decLt}
 use Rattle.lists.specs.First.{first}
+use Rattle.lists.proofs.Tests.{clash, not-both}
 use Rattle.lists.proofs.First.{first-no, first-yes, first-none}
 use Rattle.bounds.specs.Bound.{isMissing}
 use Rattle.sections.specs.Section.{sectionBound, firstMissing, sectionsOf}
@@ -14,7 +15,7 @@ use Rattle.plan.specs.declared.Tasks.{Tasks}
 use Rattle.plan.specs.declared.Outcome.{Outcome}
 use Rattle.plan.specs.declared.Outcome.the-variants.{Planned, Failed}
 use Rattle.plan.specs.declared.Tried.{Tried}
-use Rattle.plan.specs.Trial.{homes, sections, stages, trialOf}
+use Rattle.plan.specs.Trial.{numberOf, homes, sections, stages, trialOf}
 use Rattle.plan.specs.Planning.{isPlanned, firstTrial, lastTrial, planningOf}
 use Rattle.plan.proofs.Trials.{trial-planned, trial-whole, trials-some, planning-found, planning-none, planning-trial}
 
@@ -39,17 +40,34 @@ trial-exactly t s = (
     nowhere : ℕ → Bool
     nowhere k = isNowhere (placeOf (t .period) (t .c1) (t .c2) (t .work) (sections t s .bound) s (t .m) k)
 
+-- the outcome of a trial that passes the test is a plan, and that of one that has none does not pass
 planned-is : (o : Outcome) → isPlanned o ≡ true → o ≡ Planned
 planned-is Planned e = refl
-planned-is (Failed row mark) e = let z : _≡_ {A = ℕ} 0 1 = cc in absurd (omega arith)
+planned-is (Failed row mark) e = clash cc
 
 not-planned : (o : Outcome) → (o ≡ Planned → ⊥) → isPlanned o ≡ false
 not-planned Planned fail = absurd (fail refl)
 not-planned (Failed row mark) fail = refl
 
+-- an outcome with number 0 is a plan,
+pub number-planned : (o : Outcome) → numberOf o ≡ 0 → o ≡ Planned
+unfolding numberOf
+number-planned Planned e = refl
+number-planned (Failed row mark) e = absurd (omega arith)
+
+-- and any other has number 11
+pub number-failed : (o : Outcome) → (o ≡ Planned → ⊥) → numberOf o ≡ 11
+unfolding numberOf
+number-failed Planned fail = absurd (fail refl)
+number-failed (Failed row mark) fail = refl
+
+-- one of the trials that the paper lists succeeds
+abbrev pub Succeeds : Tasks → Type 0
+Succeeds t = (s : ℕ) × (firstTrial t ≤ s) × (s ≤ lastTrial t) × (trialOf t s .outcome ≡ Planned)
+
 module _ (t : Tasks) where
   -- none of the trials before s succeeds
-  abbrev pub FailBefore : ℕ → Type 0
+  abbrev FailBefore : ℕ → Type 0
   FailBefore s = (q : ℕ) → firstTrial t ≤ q → q < s → trialOf t q .outcome ≡ Planned → ⊥
 
   -- "The first that succeeds is the plan."
@@ -72,12 +90,10 @@ module _ (t : Tasks) where
       fail : FailBefore (firstTrial t + f)
       fail q c l e =
           let z : firstTrial t + (q - firstTrial t) ≡ q = omega arith in
-          let x : _≡_ {A = Bool} false true = sym (first-no (suc (lastTrial t - firstTrial t)) passes (q - firstTrial t) (omega arith)) ∙ ap (λ (i : ℕ). isPlanned (trialOf t i .outcome)) z ∙ ap isPlanned e in
-          let y : _≡_ {A = ℕ} 0 1 = cc in
-          omega arith
+          not-both (ap (λ (i : ℕ). isPlanned (trialOf t i .outcome)) z ∙ ap isPlanned e) (first-no (suc (lastTrial t - firstTrial t)) passes (q - firstTrial t) (omega arith))
 
   -- there is a plan exactly when one of the trials succeeds
-  pub plan-exactly : 2 ≤ t .m → (planningOf t .outcome ≡ Planned) ↔ ((s : ℕ) × (firstTrial t ≤ s) × (s ≤ lastTrial t) × (trialOf t s .outcome ≡ Planned))
+  pub plan-exactly : 2 ≤ t .m → (planningOf t .outcome ≡ Planned) ↔ Succeeds t
   plan-exactly h = (
     (λ e.
         let (s, a, b, q) = planning-trial t h in
@@ -94,8 +110,7 @@ module _ (t : Tasks) where
     (λ e.
         let fail : (s : ℕ) → firstTrial t ≤ s → s ≤ lastTrial t → trialOf t s .outcome ≡ Planned → ⊥ = λ s a b f.
         let q : Failed row mark ≡ Planned = sym e ∙ plan-exactly h .1 (s, a, b, f) in
-        let z : _≡_ {A = ℕ} 0 1 = cc in
-        omega arith in
+        clash cc in
         (fail, sym (last fail) ∙ e)),
     λ (fail, e). last fail ∙ e,
   )

@@ -16,11 +16,12 @@ use Rattle.plan.specs.Good.{GoodTasks}
 use Rattle.lists.proofs.Tab.{getD-filled}
 
 module _ (t : Table) (g : GoodTable t) where
-  pub row-lt : (k : ℕ) → k < t .n → rowOf (t .rank) (t .n) k < t .n
+  -- the row of a rank is one of the table
+  row-lt : (k : ℕ) → k < t .n → rowOf (t .rank) (t .n) k < t .n
   row-lt k l = rank-of-row (t .period) (t .rank) (t .n) (g .rows .1) (g .ranks) k l .0
 
   -- task k is the row of rank k
-  pub ordered : (column : List ℕ) (k : ℕ) → k < t .n → getD (inRank (t .rank) (t .n) column) k 0 ≡ getD column (rowOf (t .rank) (t .n) k) 0
+  ordered : (column : List ℕ) (k : ℕ) → k < t .n → getD (inRank (t .rank) (t .n) column) k 0 ≡ getD column (rowOf (t .rank) (t .n) k) 0
   ordered column k l = getD-inRank (t .rank) (t .n) column k l
 
   -- what the resource of task k has, and C1 + C2 of task k
@@ -30,25 +31,30 @@ module _ (t : Table) (g : GoodTable t) where
       getD-filled 64 0 (λ j. getD values (getD (inRank (t .rank) (t .n) (t .resource)) j 0) 0) (t .n) k 0 l
       ∙ ap (λ (r : ℕ). getD values r 0) (ordered (t .resource) k l)
 
+  -- C1 + C2 of task k are those of its row
   pub works-of : (k : ℕ) → k < t .n
       → getD (worksOf (inRank (t .rank) (t .n) (t .c1)) (inRank (t .rank) (t .n) (t .c2)) (t .n)) k 0 ≡ getD (t .c1) (rowOf (t .rank) (t .n) k) 0 + getD (t .c2) (rowOf (t .rank) (t .n) k) 0
   works-of k l =
       let e = getD-filled 64 0 (λ j. getD (inRank (t .rank) (t .n) (t .c1)) j 0 + getD (inRank (t .rank) (t .n) (t .c2)) j 0) (t .n) k 0 l in
       omega (arith, ordered (t .c1) k l, ordered (t .c2) k l)
 
+  -- the rows have good periods, and sections within them
   pub good-rows : GoodRows (t .period) (t .a) (t .n)
   good-rows k l =
       let h = g .tasks k l in
       (h .period .0, h .period .1, omega (arith, h .sum .1))
 
+  -- C1 + C2 of a task are at most a million
   pub small-works : (k : ℕ) → k < t .n → getD (inRank (t .rank) (t .n) (t .c1)) k 0 + getD (inRank (t .rank) (t .n) (t .c2)) k 0 ≤ 1000000
   small-works k l =
       let h = g .tasks (rowOf (t .rank) (t .n) k) (row-lt k l) in
       omega (arith, ordered (t .c1) k l, ordered (t .c2) k l, h .sum .1, h .period .1)
 
+  -- no resource is above 16
   pub small-resources : (k : ℕ) → k < t .n → getD (inRank (t .rank) (t .n) (t .resource)) k 0 ≤ 16
   small-resources k l = omega (arith, ordered (t .resource) k l, g .tasks (rowOf (t .rank) (t .n) k) (row-lt k l) .resource)
 
+  -- so the tasks are good
   pub tasks-good : GoodTasks (tasksOf t)
   unfolding tasksOf weighed
   tasks-good =

@@ -10,6 +10,7 @@ use native.Mathlib.Nat.{min-eq-left, min-eq-right, min-le-left, min-le-right}
 use borrow.Author.Tests.{lt-ltb, le-ltb}
 use lib.ListN.{getD}
 use lib.Dec.{ltb}
+use Rattle.lists.proofs.Tests.{clash}
 use Rattle.lists.proofs.First.{first-is, first-none}
 use Rattle.spread.proofs.Spread.{serves-le}
 use Rattle.sections.specs.Good.{GoodSections}
@@ -47,6 +48,7 @@ module _ (t : Tasks) (g : GoodTasks t) where
       }
 
   module _ (s : ℕ) where
+    -- no resource has a processor above 16
     pub serves-small : s < t .m → (0 < t .used → 1 ≤ s) → (r : ℕ) → getD (serves t s) r 0 ≤ 16
     unfolding serves
     serves-small l h r = omega (arith, serves-le (t .weight) (t .heaviest) s (t .used) h r, g .processors .1)
@@ -57,14 +59,17 @@ module _ (t : Tasks) (g : GoodTasks t) where
     bounds-short h k l = section-least (t .npp) (t .period) (t .a) (t .top) (homes t s) (t .n) k (omega arith) .1
 
 module _ (t : Tasks) (s : ℕ) where
+  -- mark 1: the first missing bound ends the trial
   pub trial-missing : sections t s .missing < t .n → trialOf t s ≡ failed (getD (t .row) (sections t s .missing) 0) 1
   unfolding trialOf
   trial-missing l = rw (lt-ltb (sections t s .missing) (t .n) l)
 
+  -- mark 2: the first that fits none does
   pub trial-nowhere : t .n ≤ sections t s .missing → stages t s .nowhere < t .n → trialOf t s ≡ failed (getD (t .row) (stages t s .nowhere) 0) 2
   unfolding trialOf
   trial-nowhere h l = rw (le-ltb (sections t s .missing) (t .n) h, lt-ltb (stages t s .nowhere) (t .n) l)
 
+  -- and otherwise there is a plan
   pub trial-planned : t .n ≤ sections t s .missing → t .n ≤ stages t s .nowhere → trialOf t s ≡ planned (planBy t s (serves t s) (sections t s .bound) (stages t s))
   unfolding trialOf
   trial-planned h k = rw (le-ltb (sections t s .missing) (t .n) h, le-ltb (stages t s .nowhere) (t .n) k)
@@ -79,8 +84,7 @@ module _ (t : Tasks) (s : ℕ) where
       never : (row mark : ℕ) → trialOf t s ≡ failed row mark → ⊥
       never row mark h =
           let q : Planned ≡ Failed row mark = sym e ∙ ap (λ (x : Tried). x .outcome) h in
-          let z : _≡_ {A = ℕ} 0 1 = cc in
-          omega arith
+          clash cc
 
   -- a trial that fails hands back the row and the mark, and nothing else
   pub trial-failed : (row mark : ℕ) → trialOf t s .outcome ≡ Failed row mark → trialOf t s ≡ failed row mark
@@ -99,7 +103,7 @@ module _ (t : Tasks) (s : ℕ) where
       go : (a b : Bool) → cond a x (cond b y z) .outcome ≡ Failed row mark → cond a x (cond b y z) ≡ failed row mark
       go true b e = cc
       go false true e = cc
-      go false false e = let q : _≡_ {A = ℕ} 0 1 = cc in absurd (omega arith)
+      go false false e = clash cc
 
 module _ (t : Tasks) where
   -- where a resource is used, no trial is without a synchronization processor
@@ -119,6 +123,7 @@ module _ (t : Tasks) where
       let e : min (t .m - 1) (t .used) ≡ t .m - 1 = min-eq-left (omega arith) in
       omega (arith, min-le-left 1 (t .used)))
 
+  -- the last trial leaves a processor for stages
   pub last-lt : 2 ≤ t .m → lastTrial t < t .m
   last-lt h = omega (arith, min-le-left (t .m - 1) (t .used))
 
@@ -144,6 +149,7 @@ module _ (t : Tasks) where
       let q : min (suc (lastTrial t - firstTrial t)) (lastTrial t - firstTrial t) ≡ lastTrial t - firstTrial t = min-eq-right (omega arith) in
       rw (f, q, z)
 
+  -- one trial more fails
   pub none-more : (s : ℕ) → NoneBefore s → isPlanned (trialOf t s .outcome) ≡ false → NoneBefore (s + 1)
   none-more s h e q a b = dite (decLt q s) (λ l. h q a l) (λ l. let z : q ≡ s = omega arith in rw z e)
 

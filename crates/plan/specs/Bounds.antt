@@ -29,6 +29,7 @@ module _ (t : Table) (p : Plan) where
   unfoldable pub stageTerms : ℕ → List Term
   stageTerms k = termsOn (byRank t (t .period)) (worksOf (byRank t (t .c1)) (byRank t (t .c2)) (t .n)) stageHomes (getD stageHomes k 0) k
 
+  -- "Blocking B" of the task of rank k
   unfoldable pub blocking : ℕ → ℕ
   blocking k = blockingOf (t .npp) (byRank t (t .a)) (ofResource (t .ceiling) (byRank t (t .resource)) (t .n)) sectionHomes (t .n) k
 

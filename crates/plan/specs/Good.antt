@@ -8,6 +8,7 @@ use Rattle.spread.specs.Weight.{GoodWeights}
 use Rattle.plan.specs.declared.Tasks.{Tasks}
 use Rattle.plan.specs.declared.Plan.{Plan}
 
+-- tasks in rank order that keep to the paper's limits, and what is worked out of them
 pub record GoodTasks (t : Tasks) : Type 0 where
   pub few : (1 ≤ t .n) × (t .n ≤ 64)
   pub processors : (2 ≤ t .m) × (t .m ≤ 16)

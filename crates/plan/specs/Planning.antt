@@ -10,6 +10,7 @@ use Rattle.plan.specs.declared.Tried.{Tried}
 use Rattle.plan.specs.Tasks.{tasksOf}
 use Rattle.plan.specs.Trial.{trialOf}
 
+-- whether there is a plan
 abbrev pub isPlanned : Outcome → Bool
 isPlanned Planned = true
 isPlanned (Failed row mark) = false
@@ -30,5 +31,6 @@ module _ (t : Tasks) where
   unfoldable pub planningOf : Tried
   planningOf = trialOf t (firstTrial + min failures (lastTrial - firstTrial))
 
+-- what comes of planning a table
 unfoldable pub plannedOf : Table → Tried
 plannedOf t = planningOf (tasksOf t)

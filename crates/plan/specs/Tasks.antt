@@ -41,5 +41,6 @@ weighed t weights =
       used = usedOf weights;
     }
 
+-- the tasks of a table
 unfoldable pub tasksOf : Table → Tasks
 tasksOf t = weighed t (weightsOf (t .period) (t .a) (t .resource) (t .n))

@@ -31,6 +31,7 @@ unfoldable pub markOf : Outcome → ℕ
 markOf Planned = 0
 markOf (Failed row mark) = mark
 
+-- a plan of zeros
 abbrev pub noPlan : Plan
 noPlan = record { s = 0; serves = blank 17 0; processor = blank 64 0; d1 = blank 64 0; section = blank 64 0; d2 = blank 64 0 }
 
@@ -38,6 +39,7 @@ noPlan = record { s = 0; serves = blank 17 0; processor = blank 64 0; d1 = blank
 abbrev pub failed : ℕ → ℕ → Tried
 failed row mark = record { outcome = Failed row mark; plan = noPlan }
 
+-- a trial that ends with this plan
 abbrev pub planned : Plan → Tried
 planned plan = record { outcome = Planned; plan = plan }
 

@@ -16,22 +16,22 @@ use table::Table;
 // The tasks of a table in rank order, a place for each, and what every trial needs: C1 + C2, the ceiling of the task's
 // resource, its row; the rank of each row; the weight of each resource at its number, the resources heaviest first, and how
 // many are used.
-pub struct Tasks {
-    pub n: usize,
-    pub m: usize,
-    pub npp: bool,
-    pub period: [u32; 64],
-    pub c1: [u32; 64],
-    pub a: [u32; 64],
-    pub c2: [u32; 64],
-    pub work: [u32; 64],
-    pub resource: [u32; 64],
-    pub top: [u32; 64],
-    pub row: [u32; 64],
-    pub rank: [u32; 64],
-    pub weight: [u32; 17],
-    pub heaviest: [u32; 64],
-    pub used: usize,
+struct Tasks {
+    n: usize,
+    m: usize,
+    npp: bool,
+    period: [u32; 64],
+    c1: [u32; 64],
+    a: [u32; 64],
+    c2: [u32; 64],
+    work: [u32; 64],
+    resource: [u32; 64],
+    top: [u32; 64],
+    row: [u32; 64],
+    rank: [u32; 64],
+    weight: [u32; 17],
+    heaviest: [u32; 64],
+    used: usize,
 }
 
 // A plan: how many synchronization processors there are, the processor of each resource at its number, and for each row its

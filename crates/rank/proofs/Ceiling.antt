@@ -12,10 +12,12 @@ use lib.ListN.{getD}
 use Rattle.rank.specs.Ceiling.{uses, ceilingOf}
 
 module _ (resources ranks : List ℕ) (r : ℕ) where
+  -- one row more
   pub ceiling-more : (k : ℕ) → ceilingOf resources ranks (k + 1) r ≡ cond (uses (getD resources k 0) r) (min (getD ranks k 0) (ceilingOf resources ranks k r)) (ceilingOf resources ranks k r)
   unfolding ceilingOf
   ceiling-more k = rw add-one
 
+  -- a row more makes the best rank no worse
   least : (b : Bool) (x y : ℕ) → cond b (min x y) y ≤ y
   least true x y = min-le-right x y
   least false x y = omega arith
@@ -33,7 +35,7 @@ module _ (resources ranks : List ℕ) (r : ℕ) where
       rw (e, u') (min-le-left (getD ranks n 0) (ceilingOf resources ranks n r)))
 
   -- one of the first n rows uses r and has the rank c
-  abbrev pub Held : ℕ → ℕ → Type 0
+  abbrev Held : ℕ → ℕ → Type 0
   Held n c = (k : ℕ) × (k < n) × (uses (getD resources k 0) r ≡ true) × (getD ranks k 0 ≡ c)
 
   -- where there is a user, a user has the ceiling

@@ -9,11 +9,11 @@ use lib.ListN.{length, drop}
 use lib.Dec.{ltb}
 use Rattle.table.specs.declared.Table.{Table}
 use Rattle.table.specs.declared.Reading.{Reading}
-use Rattle.plan.specs.declared.Outcome.{Outcome}
-use Rattle.plan.specs.declared.Outcome.the-variants.{Planned, Failed}
+use Rattle.plan.specs.declared.Outcome.the-variants.{Planned}
 use Rattle.plan.specs.declared.Tried.{Tried}
 use Rattle.plan.specs.Trial.{numberOf, namesOf, markOf}
 use Rattle.plan.specs.Planning.{plannedOf}
+use Rattle.plan.proofs.Exactly.{number-planned}
 use Rattle.arrivals.specs.declared.Arrival.{Arrival}
 use Rattle.arrivals.specs.Arrival.{brings}
 use Rattle.machine.specs.declared.Chart.{Chart}
@@ -32,6 +32,7 @@ ranTo c xs e = done (worstAt c (brings xs) e) (tallyOf (c .n) (jobsAt c (brings 
 abbrev pub chartIn : Table → Chart
 chartIn t = chartOf t (plannedOf t .plan)
 
+-- what a call has passed that is answered with number 0
 pub record Accepted (r : Reading) (xs : List Arrival) (f w size : ℕ) : Type 0 where
   pub read : r .number ≡ 0
   pub planned : plannedOf (r .table) .outcome ≡ Planned
@@ -48,12 +49,8 @@ passed a b refusal answer h = go (ltb a b) refl
     go true e z = absurd (omega (arith, h (ltb-true a b e)))
     go false e z = (ltb-false a b e, refl, z)
 
-planned-none : (o : Outcome) → numberOf o ≤ 0 → o ≡ Planned
-unfolding numberOf
-planned-none Planned h = refl
-planned-none (Failed row mark) h = absurd (omega arith)
-
 module _ (r : Reading) (xs : List Arrival) (f w size : ℕ) where
+  -- it has
   pub run-accepted : runAnswer r xs f w size .number ≡ 0 → Accepted r xs f w size
   unfolding runAnswer tableAnswer callAnswer steppedOf
   run-accepted z =
@@ -67,7 +64,7 @@ module _ (r : Reading) (xs : List Arrival) (f w size : ℕ) where
       let none : callNumber t xs f w size ≡ 0 = omega (arith, called .0) in
       record {
         read = omega (arith, read .0);
-        planned = planned-none (tried .outcome) (planned .0);
+        planned = number-planned (tried .outcome) (omega (arith, planned .0));
         called = none;
         heard-none = allowed t xs f w size none .good;
         in-time = stepped .0;

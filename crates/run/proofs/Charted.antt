@@ -23,12 +23,13 @@ use Rattle.run.specs.Answer.{heard}
 use Rattle.machine.proofs.Threes.{threes-first, threes-second, threes-third, threes-rest, length-threes}
 
 -- a place is one of the three of a row
-pub data Third : ℕ → Type 0 where
+data Third : ℕ → Type 0 where
   at0 : (i : ℕ) → Third (3 * i + 0)
   at1 : (i : ℕ) → Third (3 * i + 1)
   at2 : (i : ℕ) → Third (3 * i + 2)
 
-pub third : (k : ℕ) → Third k
+-- each place is
+third : (k : ℕ) → Third k
 third zero = at0 0
 third (suc k) = next (third k)
   where
@@ -38,7 +39,7 @@ third (suc k) = next (third k)
     next (at2 i) = subst Third (omega arith) (at0 (suc i))
 
 -- three columns side by side are as small as each of them
-pub threes-le : (xs ys zs : List ℕ) (n b : ℕ) → n ≤ 64 → ((i : ℕ) → i < n → (getD xs i 0 ≤ b) × (getD ys i 0 ≤ b) × (getD zs i 0 ≤ b)) → (k : ℕ) → getD (threes xs ys zs n) k 0 ≤ b
+threes-le : (xs ys zs : List ℕ) (n b : ℕ) → n ≤ 64 → ((i : ℕ) → i < n → (getD xs i 0 ≤ b) × (getD ys i 0 ≤ b) × (getD zs i 0 ≤ b)) → (k : ℕ) → getD (threes xs ys zs n) k 0 ≤ b
 threes-le xs ys zs n b few h k = go (leb (3 * n) k) refl (third k)
   where
     inside : {k : ℕ} → k < 3 * n → Third k → getD (threes xs ys zs n) k 0 ≤ b
@@ -51,11 +52,13 @@ threes-le xs ys zs n b few h k = go (leb (3 * n) k) refl (third k)
     go false e z = inside (leb-false (3 * n) k e) z
 
 module _ (t : Table) (good : GoodTable t) (found : plannedOf t .outcome ≡ Planned) where
+  -- no section is on a processor above 16
   lock-le : (i : ℕ) → i < t .n → getD (locksOf t (plannedOf t .plan)) i 0 ≤ 16
   lock-le i h =
       let e = getD-filled 64 0 (λ k. getD (plannedOf t .plan .serves) (getD (t .resource) k 0) 0) (t .n) i 0 h in
       omega (arith, e, plan-serves t good found (getD (t .resource) i 0))
 
+  -- so the chart is good
   pub good-chart : GoodChart (chartOf t (plannedOf t .plan))
   unfolding chartOf
   good-chart =

@@ -15,7 +15,7 @@ use Rattle.run.specs.Run.{Ran, refused, done, isLate, log, steppedOf, sh
 use Rattle.run.specs.State.{Stands, Falls}
 
 -- the answer and the trace of w ticks from f on
-abbrev pub Ends : Chart → List Arrival → ℕ → ℕ → List ℕ → Ran → List ℕ → Type 0
+abbrev Ends : Chart → List Arrival → ℕ → ℕ → List ℕ → Ran → List ℕ → Type 0
 Ends c xs f w trace r shown = (r ≡ steppedOf c xs f w) × (shown ≡ shownOf c xs f w trace)
 
 module _ (c : Chart) (xs : List Arrival) (f w : ℕ) (trace : List ℕ) where
@@ -28,6 +28,7 @@ module _ (c : Chart) (xs : List Arrival) (f w : ℕ) (trace : List ℕ) where
       let row : late + 1 ≡ suc late = omega arith in
       rw (t, lt-ltb (h .tick) (f + w) b) (ap (λ (k : ℕ). refused 19 k 0) (row ∙ ap suc (h .row)), refl)
 
+  -- none came too early
   pub stood : (flat dues worst : List ℕ) (next : ℕ) → Stands c xs (f + w) flat dues worst next → Ends c xs f w trace (done worst (tallyOf (c .n) (jobsIn flat))) (log c xs f w ++ drop (c .m * w) trace)
   unfolding steppedOf shownOf
   stood flat dues worst next h =

@@ -7,18 +7,15 @@ use native.Mathlib.Numerals.{add-one}
 use native.Mathlib.Nat.{mul-add, mul-le-mul-left}
 use lib.ListN.{length, drop, set, replicate, length-append, length-drop}
 use lib.Seq.{sets, sets-eq, drop-cons, set-at, drop-append-add, drop-drop}
-use Rattle.lists.proofs.Sets.{sets-append}
 use Rattle.lists.specs.Tab.{blank}
 use Rattle.lists.proofs.Tab.{length-blank}
 
 module _ {A : Type 0} where
-  -- lists that are written one behind the other, n places from the first on
-  pub written-on : (l u v : List A) (at n : ℕ) → length u ≡ n → sets (sets l at u) (at + n) v ≡ sets l at (u ++ v)
-  written-on l u v at n h = ap (λ (k : ℕ). sets (sets l at u) (at + k) v) (sym h) ∙ sets-append l at u v
-
+  -- a written front leaves the length as it was
   pub length-front : (u l : List A) (at : ℕ) → length u ≡ at → at ≤ length l → length (u ++ drop at l) ≡ length l
   length-front u l at hu h = omega (arith, length-append u (drop at l), length-drop at l)
 
+-- one blank place more, in front or behind
 blank-shift : {A : Type 0} (k : ℕ) (a : A) (ys : List A) → replicate k a ++ (a ∷ ys) ≡ a ∷ (replicate k a ++ ys)
 blank-shift zero a ys = refl
 blank-shift (suc k) a ys = ap (λ (l : List _). a ∷ l) (blank-shift k a ys)
@@ -36,6 +33,7 @@ front-is l u n h k =
     let q : 0 + length u ≡ n = omega arith in
     sets-eq u l 0 (omega arith) ∙ ap (λ (z : ℕ). u ++ drop z l) q
 
+-- and what stands behind it is as it was
 pub front-rest : (l u : List ℕ) (n : ℕ) → length u ≤ n → n ≤ length l → drop n (sets l 0 u) ≡ drop n l
 front-rest l u n h k =
     let q : length u + (n - length u) ≡ n = omega arith in

@@ -42,6 +42,7 @@ module _ (weight : Arrival → ℕ) (adds : List ℕ → ℕ) (same : (a : Arriv
   unfolding isOf
   share-own k i t a b = rw (eq-eqb _ _ a, eq-eqb _ _ b)
 
+  -- and nothing elsewhere
   share-other : (k i t : ℕ) → (arrivalAt xs k .tick ≡ t → arrivalAt xs k .row ≡ suc i → ⊥) → share k i t ≡ 0
   share-other k i t h = go (isOf xs i t k) refl
     where

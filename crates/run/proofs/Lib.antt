@@ -4,7 +4,6 @@ pub mod Ends
 pub mod Charted
 pub mod Calls
 pub mod Many
-pub mod Joined
 pub mod Accepted
 pub mod Window
 pub mod Lengths

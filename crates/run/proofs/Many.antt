@@ -1,7 +1,7 @@
 -- A call with more than 4,096 arrivals is refused whatever they are, so at most 4,096 of a lent list have to be taken apart.
 use Prim.Native.Nat.{ℕ, _*_, _<_, min}
 use mathlib.Core.Path.{_≡_, refl, _∙_, ap, subst}
-use mathlib.Core.Bool.{Bool, true, false, cond, _||_}
+use mathlib.Core.Bool.{Bool, true, false, cond, or-true}
 use mathlib.Core.List.{List}
 use mathlib.Core.Logic.{dite}
 use native.Mathlib.Omega.{arith}
@@ -21,10 +21,6 @@ use Rattle.run.specs.Run.{Ran}
 use Rattle.run.specs.Answer.{badWindow, callNumber, callNames, callAnswer, tableAnswer, runAnswer, traceAfter}
 use Rattle.run.proofs.Calls.{Leaves}
 
-or-true : (a : Bool) → (a || true) ≡ true
-or-true true = refl
-or-true false = refl
-
 module _ (xs ys : List Arrival) (k : 4096 < length xs) (l : 4096 < length ys) (f w : ℕ) where
   -- the call is refused, and both lists are refused the same way
   same-call : (t : Table) (size : ℕ)
@@ -37,11 +33,13 @@ module _ (xs ys : List Arrival) (k : 4096 < length xs) (l : 4096 < length ys) (f
       above false true = refl
       above false false = refl
 
-  pub same-answer : (r : Reading) (size : ℕ) → runAnswer r xs f w size ≡ runAnswer r ys f w size
+  -- so the answer is the same,
+  same-answer : (r : Reading) (size : ℕ) → runAnswer r xs f w size ≡ runAnswer r ys f w size
   unfolding runAnswer tableAnswer callAnswer
   same-answer r size = let e = same-call (r .table) size in rw (e .0, e .1, e .2)
 
-  pub same-trace : (r : Reading) (trace : List ℕ) → traceAfter r xs f w trace ≡ traceAfter r ys f w trace
+  -- and the trace is left as it was
+  same-trace : (r : Reading) (trace : List ℕ) → traceAfter r xs f w trace ≡ traceAfter r ys f w trace
   unfolding traceAfter
   same-trace r trace = let e = same-call (r .table) (length trace) in rw (e .0, e .2, or-true (ltb 0 (numberOf (plannedOf (r .table) .outcome))), or-true (ltb 0 (r .number)))
 

@@ -19,6 +19,7 @@ use Rattle.machine.proofs.Threes.{threes-first, threes-second, threes-third}
 use Rattle.run.specs.Seated.{Seated}
 
 module _ (t : Table) (g : GoodTable t) (e : plannedOf t .outcome ≡ Planned) where
+  -- the plan
   abbrev p : Plan
   p = plannedOf t .plan
 
@@ -30,6 +31,7 @@ module _ (t : Table) (g : GoodTable t) (e : plannedOf t .outcome ≡ Planned) wh
       let used : uses r r ≡ true = rw (lt-ltb 0 r named, eq-eqb r r refl) in
       rw (getD-filled 64 0 (λ k. getD (p .serves) (getD (t .resource) k 0) 0) (t .n) i 0 l) (plan-served t g e r named (g .tasks i l .resource) .on (i, l, used))
 
+  -- so every part that can run has one
   pub planned-seated : Seated (chartOf t p) (t .a)
   unfolding chartOf
   planned-seated =

@@ -11,7 +11,8 @@ use lib.ListN.{length, getD, getD-replicate}
 use lib.Seq.{sets}
 use Rattle.lists.specs.Tab.{joined, blank}
 use Rattle.lists.proofs.Tab.{getD-blank, length-blank}
-use Rattle.lists.proofs.First.{first-le}
+use Rattle.lists.proofs.Sets.{sets-then}
+use Rattle.lists.proofs.Joined.{joined-append, joined-same}
 use Rattle.chain.specs.declared.Job.{Job}
 use Rattle.chain.specs.Job.{noJob, jobAt}
 use Rattle.chain.specs.Release.{never, late, dueAt, dueOf}
@@ -24,13 +25,12 @@ use Rattle.machine.specs.declared.Chart.{Chart}
 use Rattle.machine.specs.Tick.{noted, lateRow, jobsAt, worstAt, lateAt, bytesAt}
 use Rattle.machine.specs.Good.{GoodChart, GoodJobs, Dues, Held, Coming}
 use Rattle.machine.proofs.Keep.{good-at, past-at, length-worst}
+use Rattle.machine.proofs.Releasing.{late-le}
 use Rattle.stretch.specs.declared.Stretched.{Stretched}
 use Rattle.stretch.specs.Stretch.{Stretch}
 use Rattle.stretch.proofs.Steps.{steps-from, worst-from, late-from, bytes-from}
 use Rattle.run.specs.Run.{isLate, log}
 use Rattle.run.specs.State.{Stands, Went}
-use Rattle.run.proofs.Front.{written-on}
-use Rattle.run.proofs.Joined.{joined-append, joined-same}
 use Rattle.run.proofs.Window.{length-log}
 
 module _ (c : Chart) (xs : List Arrival) where
@@ -58,12 +58,13 @@ module _ (c : Chart) (xs : List Arrival) where
   shown-more l tr v f k ticks e same =
       let g : ℕ → List ℕ = λ j. bytesAt c (brings xs) (f + j) in
       let inside : joined ticks (λ j. v) ≡ joined ticks (λ j. g (k + j)) = joined-same ticks (λ j. v) (λ j. g (k + j)) (λ j h. same j h ∙ ap (bytesAt c (brings xs)) (add-assoc f k j)) in
-      rw (e, inside, joined-append k ticks g)
-      (ap (λ (z : ℕ). sets (sets l 0 (log c xs f k)) z (joined ticks (λ j. g (k + j)))) (sym (zero-add (c .m * k)))
-      ∙ written-on l (log c xs f k) (joined ticks (λ j. g (k + j))) 0 (c .m * k) (length-log c xs f k))
+      rw (inside, joined-append k ticks g)
+      (sets-then l 0 (c .m * k) (log c xs f k) (joined ticks (λ j. g (k + j))) (length-log c xs f k) e
+      (ap (λ (z : ℕ). sets tr z (joined ticks (λ j. g (k + j)))) (sym (zero-add (c .m * k)))))
 
 -- one stretch of ticks more
 module _ {c : Chart} {xs : List Arrival} {t : ℕ} {flat dues worst : List ℕ} {next : ℕ} (st : Stands c xs t flat dues worst next) where
+  -- what stretches ask of the numbers
   pub holds : GoodChart c → t ≤ 1000000 → Held (c .n) (c .bounds) t flat dues
   holds good h =
       record {
@@ -75,6 +76,7 @@ module _ {c : Chart} {xs : List Arrival} {t : ℕ} {flat dues worst : List ℕ} 
         dues-are = st .dues-are;
       }
 
+  -- the jobs are good
   pub good-in : GoodChart c → t ≤ 1000000 → (i : ℕ) → i < c .n → GoodJob (jobIn flat i)
   good-in good h i l = subst GoodJob (jobs-at flat i (omega (arith, good .homed .few))) (holds good h .good i l .0)
 
@@ -87,12 +89,13 @@ module _ {c : Chart} {xs : List Arrival} {t : ℕ} {flat dues worst : List ℕ} 
         either = omega arith;
       }
 
+  -- 192 worst responses
   pub worst-whole : length worst ≡ 192
   worst-whole = ap length (st .noted) ∙ length-worst c (brings xs) t
 
   -- what a stretch of ticks before tick e leads to, as it is told
   module _ (e : ℕ) (r : Stretched) (flat′ dues′ worst′ lane : List ℕ) where
-    abbrev pub Led : Type 0
+    abbrev Led : Type 0
     Led =
         (length flat′ ≡ 576) × (length dues′ ≡ 64)
         × (r .late ≡ lateRow (c .n) (c .bounds) (brings xs) t (jobsIn flat))
@@ -100,6 +103,7 @@ module _ {c : Chart} {xs : List Arrival} {t : ℕ} {flat dues worst : List ℕ} 
         × (0 < r .ticks) × (t + r .ticks ≤ e) × Dues (c .n) (c .bounds) (jobsIn flat′) dues′ × Coming (c .n) xs (r .next) (t + r .ticks))
 
     module _ (led : Led) where
+      -- the row is the machine's
       late-is : r .late ≡ lateAt c (brings xs) t
       unfolding lateAt
       late-is = led .2 ∙ ap (lateRow (c .n) (c .bounds) (brings xs) t) (st .jobs)
@@ -114,14 +118,16 @@ module _ {c : Chart} {xs : List Arrival} {t : ℕ} {flat dues worst : List ℕ} 
           }
 
       module _ (h : c .n ≤ r .late) where
+        -- no release came too early in tick t,
         none : r .late ≡ c .n
-        unfolding lateRow
-        none = omega (arith, led .2, first-le (c .n) (λ i. late (c .bounds) i t (jobAt (jobsIn flat) i) (brings xs i t)))
+        none = omega (arith, led .2, late-le (c .n) (c .bounds) (brings xs) t (jobsIn flat))
 
+        -- so the stretch is one of the run,
         on : Stretch c xs t (jobsAt c (brings xs) t) (worstAt c (brings xs) t) (r .ticks) (jobsIn flat′) worst′ lane
         on = subst (λ (js : List Job). Stretch c xs t js (worstAt c (brings xs) t) (r .ticks) (jobsIn flat′) worst′ lane) (st .jobs)
             (subst (λ (w : List ℕ). Stretch c xs t (jobsIn flat) w (r .ticks) (jobsIn flat′) worst′ lane) (st .noted) (led .3 none .0))
 
+        -- none came too early in any of its ticks,
         on-time : (k : ℕ) → k < t + r .ticks → isLate c xs k ≡ false
         on-time k l = go (ltb k t) refl (ltb t k) refl
           where
@@ -135,6 +141,7 @@ module _ {c : Chart} {xs : List Arrival} {t : ℕ} {flat dues worst : List ℕ} 
                 let fine = late-from c (brings xs) t (k - t) ∙ on .timely (k - t) (omega (arith, ltb-true t k q)) (omega (arith, ltb-true t k q)) in
                 rw i (le-ltb (lateAt c (brings xs) (t + (k - t))) (c .n) (omega (arith, fine)))
 
+        -- and the numbers stand behind it
         pub led-on : Stands c xs (t + r .ticks) flat′ dues′ worst′ (r .next)
         led-on =
             record {
@@ -151,5 +158,6 @@ module _ {c : Chart} {xs : List Arrival} {t : ℕ} {flat dues worst : List ℕ} 
         pub led-shown : length lane ≡ c .m → (j : ℕ) → j < r .ticks → lane ≡ bytesAt c (brings xs) (t + j)
         led-shown w j l = on .shown w j l ∙ sym (bytes-from c (brings xs) t j)
 
+        -- it has one tick at least, and ends by tick e
         pub led-far : (0 < r .ticks) × (t + r .ticks ≤ e)
         led-far = (led .3 none .1, led .3 none .2)

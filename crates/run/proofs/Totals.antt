@@ -29,6 +29,7 @@ use Rattle.run.proofs.Units.{units-are-busy-bytes}
 use Rattle.run.proofs.Seats.{planned-seated}
 
 module _ (bytes : List ℕ) (xs : List Arrival) where
+  -- what the bytes say, and the table
   abbrev read : Reading
   read = readingOf bytes
 
@@ -36,15 +37,19 @@ module _ (bytes : List ℕ) (xs : List Arrival) where
   table = read .table
 
   module _ (f w size : ℕ) (answered : runAnswer read xs f w size .number ≡ 0) where
+    -- what the call has passed
     accepted : Accepted read xs f w size
     accepted = run-accepted read xs f w size answered
 
+    -- so the table is good,
     good : GoodTable table
     good = table-good bytes read refl (accepted .read)
 
+    -- the arrivals are,
     heard : GoodArrivals (table .n) (table .period) (table .c1) (table .a) (table .c2) xs
     heard = arrivals-good (table .n) (table .period) (table .c1) (table .a) (table .c2) xs (good .rows .1) (accepted .heard-none)
 
+    -- and no release comes too early
     in-time : (t : ℕ) → t < f + w → isLate (chartIn table) xs t ≡ false
     in-time t l = first-no (f + w) (isLate (chartIn table) xs) t (omega (arith, accepted .in-time))
 

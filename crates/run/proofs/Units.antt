@@ -3,15 +3,12 @@ use Prim.Native.Nat.{ℕ, zero, suc, _+_, _-_, _≤_, _<_}
 use mathlib.Core.Path.{_≡_, refl, sym, _∙_, ap}
 use mathlib.Core.Bool.{Bool, true, false, cond}
 use mathlib.Core.List.{List, [], _∷_}
-use mathlib.Core.Logic.{dite}
 use native.Mathlib.Omega.{arith}
-use native.Mathlib.Decide.{decLt}
 use native.Mathlib.Nat.{zero-add}
 use borrow.Author.Tests.{eq-eqb, ne-eqb}
-use lib.ListN.{getD, List·getD-eq-default}
+use lib.ListN.{getD}
 use lib.Dec.{eqb}
-use Rattle.lists.specs.Tab.{tab}
-use Rattle.lists.proofs.Tab.{length-tab, getD-tab, getD-blank}
+use Rattle.lists.proofs.Tab.{getD-blank}
 use Rattle.chain.specs.declared.Place.{Place}
 use Rattle.chain.specs.declared.Place.the-variants.{Idle, Waiting, Running}
 use Rattle.chain.specs.declared.Job.{Job}
@@ -19,8 +16,7 @@ use Rattle.chain.specs.Job.{noJob, jobAt}
 use Rattle.chain.specs.Good.{partOf}
 use Rattle.chain.specs.Unit.{unitOf}
 use Rattle.chain.proofs.Keeps.{ran-released, ran-unit}
-use Rattle.picks.specs.Pick.{home, pick}
-use Rattle.picks.proofs.Picked.{Runs, pick-runs}
+use Rattle.picks.specs.Pick.{home}
 use Rattle.arrivals.specs.declared.Arrival.{Arrival}
 use Rattle.arrivals.specs.Arrival.{brings}
 use Rattle.arrivals.specs.Seek.{GoodArrivals}
@@ -29,6 +25,7 @@ use Rattle.machine.specs.Tick.{serveAt, serve, kindOf, byteOf, picked, bytes, j
 use Rattle.lists.specs.Total.{total}
 use Rattle.machine.specs.Counts.{tallyOf}
 use Rattle.lists.proofs.Total.{total-ext, total-zero, total-add, total-one, total-swap}
+use Rattle.machine.proofs.Keep.{picked-runs}
 use Rattle.machine.proofs.Rows.{Sound}
 use Rattle.machine.proofs.Ticks.{released-at, served-at, sound-mid}
 use Rattle.run.specs.Run.{log}
@@ -37,19 +34,11 @@ use Rattle.run.specs.Seated.{HasSeat, Seated}
 use Rattle.run.proofs.Busy.{busy-one, busy-tab, busy-joined}
 
 module _ (c : Chart) (js : List Job) where
-  -- a picked row runs a part on its processor
-  picked-runs : (q i : ℕ) → getD (picked c js) q 0 ≡ suc i → (i < c .n) × Runs (c .homes) js q i
-  unfolding picked
-  picked-runs q i e =
-      let row : ℕ → ℕ = pick (c .homes) (c .rank) (c .top) (c .n) js in
-      dite (decLt q 17)
-      (λ h. pick-runs (c .homes) (c .rank) (c .top) (c .n) js q i (sym (getD-tab 17 row q 0 h) ∙ e))
-      (λ h. absurd (omega (arith, List·getD-eq-default (tab 17 row) 0 {n = q} (omega (arith, length-tab 17 row)))))
-
   -- the unit that processor q, counted from 0, gives to row i
   abbrev unit : ℕ → ℕ → ℕ
   unit q i = cond (eqb (getD (picked c js) (suc q) 0) (suc i)) 1 0
 
+  -- none to a row that it does not pick
   unit-none : (q i : ℕ) → (getD (picked c js) (suc q) 0 ≡ suc i → ⊥) → unit q i ≡ 0
   unit-none q i h = rw (ne-eqb _ _ h)
 
@@ -61,7 +50,7 @@ module _ (c : Chart) (js : List Job) where
       go : (row : ℕ) → getD (picked c js) (suc q) 0 ≡ row → total (c .n) (unit q) ≡ busy (byteOf js row ∷ [])
       go zero e = total-zero (c .n) (unit q) (λ i l. unit-none q i (λ h. omega arith))
       go (suc i) e =
-          let (l, r) = picked-runs (suc q) i e in
+          let (l, r) = picked-runs c js (suc q) i e in
           let kind : kindOf (jobAt js i .place) ≡ suc (r .part) = ap kindOf (r .place-is) in
           total-one (c .n) i (unit q) l (λ k m ne. unit-none q k (λ h. ne (omega arith)))
           ∙ rw (eq-eqb _ _ e) (sym (busy-one (byteOf js (suc i)) (omega arith)))
@@ -87,14 +76,14 @@ module _ (c : Chart) (js : List Job) where
 
       -- a row that runs nothing is not picked
       rests : kindOf (x .place) ≡ 0 → total (c .m) (λ q. unit q i) ≡ 0
-      rests z = total-zero (c .m) (λ q. unit q i) (λ q h. unit-none q i (λ e. omega (arith, ap kindOf (picked-runs (suc q) i e .1 .place-is))))
+      rests z = total-zero (c .m) (λ q. unit q i) (λ q h. unit-none q i (λ e. omega (arith, ap kindOf (picked-runs c js (suc q) i e .1 .place-is))))
 
       -- and one that runs a part is picked by that part's processor alone
       one : (j l q : ℕ) → x .place ≡ Running j l → home (c .homes) i j ≡ suc q → q < c .m → total (c .m) (λ p. unit p i) ≡ unit q i
       one j l q e at m =
           total-one (c .m) q (λ p. unit p i) m
           (λ p k ne. unit-none p i (λ h.
-          let r = picked-runs (suc p) i h .1 in
+          let r = picked-runs c js (suc p) i h .1 in
           ne (omega (arith, at, ap (home (c .homes) i) (ap partOf (sym e ∙ r .place-is)), r .home-is))))
 
       gets : (b : Bool) (j l : ℕ) → cond b (unitOf (c .bounds) i t x j l) x .ran ≡ x .ran + cond b 1 0
@@ -125,6 +114,7 @@ module _ (c : Chart) (js : List Job) where
       ∙ sym (busy-tab (c .m) (λ k. byteOf js (getD (picked c js) (suc k) 0))))
 
 module _ (c : Chart) (periods c1s secs c2s : List ℕ) (xs : List Arrival) (good : GoodArrivals (c .n) periods c1s secs c2s xs) (seated : Seated c secs) where
+  -- so it is of all ticks before e
   units-busy : (e : ℕ) → tallyOf (c .n) (jobsAt c (brings xs) e) .run ≡ total e (λ t. busy (bytesAt c (brings xs) t))
   unfolding tallyOf total jobsAt bytesAt
   units-busy zero = total-zero (c .n) _ (λ i h. ap (λ (x : Job). x .ran) (getD-blank 64 noJob i))
@@ -134,6 +124,7 @@ module _ (c : Chart) (periods c1s secs c2s : List ℕ) (xs : List Arrival) (good
       ∙ unit-tick c js e (λ i j l h. seat c js secs seated i j l h (sound-mid c periods c1s secs c2s xs good e i h))
       ∙ ap (λ (k : ℕ). k + busy (bytes c js)) (total-ext (c .n) _ _ (λ i h. ap (λ (x : Job). x .ran) (released-at c (brings xs) e i h) ∙ ran-released (c .bounds) i e _ (brings xs i e)) ∙ units-busy e)
 
+  -- that is, of the bytes of their trace
   pub units-are-busy-bytes : (e : ℕ) → tallyOf (c .n) (jobsAt c (brings xs) e) .run ≡ busy (log c xs 0 e)
   unfolding log
   units-are-busy-bytes e = simp zero-add (units-busy e ∙ sym (busy-joined e (bytesAt c (brings xs))))

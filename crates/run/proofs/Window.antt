@@ -6,28 +6,30 @@ use native.Mathlib.Omega.{arith}
 use native.Mathlib.Nat.{zero-add, mul-add}
 use lib.ListN.{length, take, drop}
 use lib.Seq.{take-at, drop-append-le}
-use Rattle.lists.proofs.Tab.{length-tab, length-joined}
+use Rattle.lists.proofs.Tab.{length-tab}
+use Rattle.lists.proofs.Joined.{length-joined, drop-joined}
 use Rattle.arrivals.specs.declared.Arrival.{Arrival}
 use Rattle.arrivals.specs.Arrival.{brings}
 use Rattle.machine.specs.declared.Chart.{Chart}
 use Rattle.machine.specs.Tick.{bytes, bytesAt}
 use Rattle.run.specs.Run.{log, steppedOf}
-use Rattle.run.proofs.Joined.{drop-joined}
 
 module _ (c : Chart) (xs : List Arrival) where
+  -- m bytes for each tick
   length-lane : (t : ℕ) → length (bytesAt c (brings xs) t) ≡ c .m
   unfolding bytesAt bytes
   length-lane t = length-tab (c .m) _
 
+  -- and m × w in all
   pub length-log : (f w : ℕ) → length (log c xs f w) ≡ c .m * w
   unfolding log
-  length-log f w = length-joined w (c .m) _ (λ k. length-lane (f + k))
+  length-log f w = length-joined (c .m) _ (λ k. length-lane (f + k)) w
 
   module _ (f w : ℕ) where
     -- its bytes are the last of those
     pub window-log : drop (c .m * f) (log c xs 0 (f + w)) ≡ log c xs f w
     unfolding log
-    window-log = simp zero-add (drop-joined f w (c .m) (bytesAt c (brings xs)) length-lane)
+    window-log = simp zero-add (drop-joined (c .m) (bytesAt c (brings xs)) length-lane f w)
 
     -- and it answers the same
     pub window-stepped : steppedOf c xs f w ≡ steppedOf c xs 0 (f + w)

@@ -53,6 +53,7 @@ tableAnswer t tried xs f w size =
     (refused (numberOf (tried .outcome)) (namesOf (tried .outcome)) (markOf (tried .outcome)))
     (callAnswer t (tried .plan) xs f w size)
 
+-- what a call answers: "The lowest number wins"
 unfoldable pub runAnswer : Reading → List Arrival → ℕ → ℕ → ℕ → Ran
 runAnswer r xs f w size =
     cond (ltb 0 (r .number))

@@ -18,6 +18,7 @@ pub use Rattle.run.specs.declared.Ran.{Ran}
 abbrev pub refused : ℕ → ℕ → ℕ → Ran
 refused number names mark = record { number = number; names = names; mark = mark; worst = blank 192 0; jobs = 0; run = 0; owed = 0 }
 
+-- an answer without refusal
 abbrev pub done : List ℕ → Tally → Ran
 done worst tally = record { number = 0; names = 0; mark = 0; worst = worst; jobs = tally .jobs; run = tally .run; owed = tally .owed }
 

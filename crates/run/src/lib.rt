@@ -123,24 +123,14 @@ fn wind(
     Reached { next, late: n }
 }
 
-// Writes the bytes of a tick into the trace, from place at on.
-fn put_lane(lane: &[u8], trace: &mut [u8], at: usize)
-    requires { ⌜ at + length (now lane) ≤ length (now trace) ⌝ }
-    ensures { λ r. ⌜ now (trace .exit) ≡ sets (now (trace .entry)) at (now (lane .entry)) ⌝ }
-{
-    for k in 0..lane.len() {
-        trace[at + k] = lane[k];
-    }
-}
-
-// Writes the same bytes for each of some ticks, one behind the other.
+// Writes the same bytes into the trace for each of some ticks, one behind the other, from place at on.
 fn put_lanes(lane: &[u8], trace: &mut [u8], at: usize, ticks: usize)
     requires { ⌜ at + length (now lane) * ticks ≤ length (now trace) ⌝ }
     ensures { λ r. ⌜ now (trace .exit) ≡ sets (now (trace .entry)) at (joined ticks (λ k. now (lane .entry))) ⌝ }
 {
     let m = lane.len();
     for k in 0..ticks {
-        put_lane(lane, trace, at + m * k);
+        lists::store(trace, at + m * k, lane);
     }
 }
 

@@ -4,10 +4,10 @@ use mathlib.Core.Path.{_≡_, refl, sym}
 use mathlib.Core.List.{List}
 use mathlib.Core.Bool.{Bool, true, false}
 use mathlib.Core.Logic.{_↔_}
-use native.Mathlib.Omega.{arith}
 use borrow.Author.Count.{below-more}
 use lib.ListN.{getD, set}
 use Rattle.lists.specs.Tab.{filled}
+use Rattle.lists.proofs.Tests.{clash}
 use Rattle.lists.proofs.Tab.{filled-next, getD-filled}
 use Rattle.lists.proofs.First.{first-no, first-is, first-none}
 use Rattle.bounds.specs.Bound.{boundOf, LeastBound, isMissing, timeOf}
@@ -39,9 +39,11 @@ module _ (npp : Bool) (periods sections tops homes : List ℕ) (n : ℕ) where
   pub bounds-more : (k t : ℕ) (bs : List ℕ) → k < 64 → bs ≡ boundsTo k → timeOf (sectionBound npp periods sections tops homes n k) ≡ t → set bs k t ≡ boundsTo (k + 1)
   bounds-more k t bs l e h = rw (sym h) (filled-next 64 0 (λ j. timeOf (sectionBound npp periods sections tops homes n j)) k bs l e)
 
+  -- one task more has a bound
   pub found-more : (k : ℕ) → Found k → isMissing (sectionBound npp periods sections tops homes n k) ≡ false → Found (k + 1)
   found-more k h e = below-more (λ j. isMissing (sectionBound npp periods sections tops homes n j) ≡ false) k h e
 
+  -- what is found up to the first that is missing is the answer
   ended : (k : ℕ) (bs : List ℕ) → bs ≡ boundsTo k → firstMissing npp periods sections tops homes n ≡ k → record { missing = k; bound = bs } ≡ sectionsOf npp periods sections tops homes n
   unfolding sectionsOf
   ended k bs e h = rw (h, e)
@@ -51,6 +53,7 @@ module _ (npp : Bool) (periods sections tops homes : List ℕ) (n : ℕ) where
   unfolding firstMissing
   sections-missing k bs l f m e = ended k bs e (first-is n (λ k. isMissing (sectionBound npp periods sections tops homes n k)) k l f m)
 
+  -- and where none is missing, all are found
   pub sections-all : (bs : List ℕ) → Found n → bs ≡ boundsTo n → record { missing = n; bound = bs } ≡ sectionsOf npp periods sections tops homes n
   unfolding firstMissing
   sections-all bs f e = ended n bs e (first-none n (λ k. isMissing (sectionBound npp periods sections tops homes n k)) f)
@@ -67,7 +70,7 @@ module _ (npp : Bool) (periods sections tops homes : List ℕ) (n : ℕ) where
       go : (b : Bound) → sectionBound npp periods sections tops homes n k ≡ b → isMissing b ≡ false →
           LeastBound (termsOn periods sections homes (getD homes k 0) k) (getD sections k 0) (blockingOf npp sections tops homes n k) (timeOf b) × (timeOf b ≤ getD periods k 0)
       go (At t) e h = bound-least (termsOn periods sections homes (getD homes k 0) k) (blockingOf npp sections tops homes n k) (getD periods k 0) t (getD sections k 0) e
-      go Missing e h = let z : _≡_ {A = ℕ} 0 1 = cc in absurd (omega arith)
+      go Missing e h = clash cc
 
   -- "It must be at most T": a section's bound is missing unless the least that covers is
   pub section-exactly : (k : ℕ) → (isMissing (sectionBound npp periods sections tops homes n k) ≡ false)

@@ -1,8 +1,7 @@
 // Blocking, and the bounds of sections.
 ghost use mathlib.Core.Path.{_≡_};
 ghost use mathlib.Core.Bool.{cond, _&&_, _||_};
-ghost use Prim.Native.Nat.{ℕ, _<_, _≤_, max};
-ghost use lib.ListN.{getD};
+ghost use Prim.Native.Nat.{_<_, _≤_, max};
 ghost use lib.Dec.{leb, eqb};
 ghost use Rattle.sections.specs.Blocking.{blockingOf};
 ghost use Rattle.sections.specs.Section.{sectionsOf};

@@ -20,7 +20,7 @@ use Rattle.plan.specs.Tasks.{tasksOf}
 use Rattle.plan.specs.Planning.{plannedOf}
 use Rattle.plan.specs.Bounds.{RowBounds}
 use Rattle.plan.proofs.Covers.{plan-bounds}
-use Rattle.plan.proofs.Given.{planning}
+use Rattle.plan.proofs.Exactly.{Succeeds}
 use Rattle.sheet.specs.Fields.{width, behind, bytesOf, packed}
 use Rattle.sheet.specs.Sheet.{headerBytes, processorFields, resourceBytes, taskBytes, taskOf, planBytes}
 use Rattle.sheet.proofs.ReadBack.{PlanRead}
@@ -37,7 +37,7 @@ use Rattle.run.proofs.Given.{running}
 use Rattle.kieferntuch.specs.declared.Answer.{Answer}
 use Rattle.kieferntuch.specs.Answer.{planAnswer}
 use Rattle.kieferntuch.specs.Sheet.{writtenAt, sheetAfter}
-use Rattle.kieferntuch.proofs.Exactly.{Ready, Succeeds, written-exactly, planned}
+use Rattle.kieferntuch.proofs.Exactly.{Ready, written-exactly, planned}
 use Rattle.kieferntuch.proofs.ReadBack.{sheet-read-back}
 use Rattle.kieferntuch.proofs.kieferntuch_plan as plan
 use Rattle.kieferntuch.proofs.kieferntuch_run as run

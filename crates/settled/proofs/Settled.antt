@@ -4,6 +4,8 @@ use Rattle.settled.specs.Settled.{Settles}
 use Rattle.lists.proofs.no_column as no-column
 use Rattle.lists.proofs.no_numbered as no-numbered
 use Rattle.lists.proofs.one_if as one-if
+use Rattle.lists.proofs.smaller as smaller
+use Rattle.lists.proofs.store as store
 use Rattle.bits.proofs.field as field
 use Rattle.rank.proofs.ranks as ranks
 use Rattle.rank.proofs.uses as uses
@@ -57,6 +59,12 @@ no-numbered-settled κs a r s h p q = (p ∙ sym q, refl)
 
 one-if-settled : Settles one-if.ended one-if.Reads.Pre one-if.Reads.Post
 one-if-settled κs a r s h p q = (p .0 ∙ sym (q .0), refl)
+
+smaller-settled : Settles smaller.ended smaller.Reads.Pre smaller.Reads.Post
+smaller-settled κs a r s h p q = (p ∙ sym q, refl)
+
+store-settled : Settles store.ended store.Reads.Pre store.Reads.Post
+store-settled κs a r s h p q = (refl, λ i. ((p ∙ sym q) i, (tt, (tt, tt))))
 
 field-settled : Settles field.ended field.Reads.Pre field.Reads.Post
 field-settled κs a r s h p q = (p .0 ∙ sym (q .0), refl)

@@ -40,6 +40,8 @@ use Rattle.machine.specs.Good.{soonestOf}
 use Rattle.machine.specs.Tick.{serveAt, kindOf, byteOf, notedAt}
 use Rattle.run.specs.Run.{refused}
 use Rattle.run.specs.Answer.{traceAfter}
+use Rattle.lists.proofs.smaller as smaller
+use Rattle.lists.proofs.store as store
 use Rattle.rank.proofs.uses as uses
 use Rattle.rank.proofs.in_rank as in-rank
 use Rattle.rank.proofs.in_rows as in-rows
@@ -101,6 +103,17 @@ below : (xs : List ℕ) (k : ℕ) → getD xs k 0 ≤ highest xs
 below [] k = omega arith
 below (x ∷ xs) zero = omega arith
 below (x ∷ xs) (suc k) = omega (arith, below xs k)
+
+-- ---- lists
+
+-- `smaller`: the first of two numbers, whichever it is
+first-for-smaller : (κs : _) → RuledOut smaller.ended smaller.Reads.Pre smaller.Reads.Post κs (2, (1, tt)) (2, _)
+first-for-smaller κs = (tt, seen (λ x. x) refl)
+
+-- `store`: from the front of the buffer on, and not from place `at` on
+stored-at-the-front : (κs : _) → RuledOut store.ended store.Reads.Pre store.Reads.Post κs
+    (lent 1 (1 ∷ 2 ∷ 3 ∷ []), (1, (lent 2 (7 ∷ []), tt))) (tt, (7 ∷ 2 ∷ 3 ∷ [], _))
+stored-at-the-front κs = (omega arith, at 0 refl)
 
 -- ---- rank
 

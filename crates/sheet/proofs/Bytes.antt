@@ -1,14 +1,15 @@
--- Laws of numbers as bytes, and of bytes that are stored.
+-- Laws of numbers as bytes.
 use Prim.Native.Nat.{ℕ, zero, suc, _+_, _-_, _*_, _/_, _%_, _^_, _<_}
 use mathlib.Core.Path.{_≡_, refl, sym, _∙_, ap}
 use mathlib.Core.List.{List, _++_, append-nil, append-assoc}
 use native.Mathlib.Omega.{arith}
 use native.Mathlib.Nat.{add-zero, add-suc, pow-suc, mul-assoc}
 use lib.ListN.{length, set, length-append}
-use lib.Seq.{sets, length-sets}
-use Rattle.lists.proofs.Sets.{sets-append, sets-last}
+use lib.Seq.{sets}
+use Rattle.lists.proofs.Sets.{sets-last}
 use Rattle.sheet.specs.Fields.{bytesOf}
 
+-- so many bytes
 pub length-bytes : (count x : ℕ) → length (bytesOf count x) ≡ count
 unfolding bytesOf
 length-bytes zero x = refl
@@ -35,12 +36,3 @@ sets-bytes l at (suc count) x h =
     let e : suc count - 1 ≡ count = omega arith in
     let n : length (bytesOf count (x / 256)) ≡ count = length-bytes count (x / 256) in
     rw (e, sets-last l at (bytesOf count (x / 256)) (x % 256), n)
-
--- two runs stored one behind the other
-pub then : {l1 l2 : List ℕ} (l : List ℕ) (at k : ℕ) (u v : List ℕ) → length u ≡ k → l1 ≡ sets l at u → l2 ≡ sets l1 (at + k) v → l2 ≡ sets l at (u ++ v)
-then l at k u v n e1 e2 =
-    e2 ∙ ap (λ (m : List ℕ). sets m (at + k) v) e1 ∙ ap (λ (j : ℕ). sets (sets l at u) (at + j) v) (sym n) ∙ sets-append l at u v
-
--- a run that is stored leaves the length as it was
-pub stored-length : {l1 : List ℕ} (l : List ℕ) (at : ℕ) (u : List ℕ) → l1 ≡ sets l at u → length l1 ≡ length l
-stored-length l at u e = ap length e ∙ length-sets l at u

@@ -16,6 +16,7 @@ unfolding width
 width-append [] gs = omega arith
 width-append (f ∷ fs) gs = omega (arith, width-append fs gs)
 
+-- and the number that they say
 pub behind-append : (ahead : ℕ) (fs gs : List Field) → behind ahead (fs ++ gs) ≡ behind (behind ahead fs) gs
 unfolding behind
 behind-append ahead [] gs = refl
@@ -51,6 +52,7 @@ width-tab zero w f = omega arith
 width-tab (suc n) w f =
     rw (width-append (tab n (λ i. field w (f i))) (field w (f n) ∷ []), width-tab n w f) (omega (arith, mul-suc w n))
 
+-- fit where each value does
 pub fit-tab : (n w : ℕ) (f : ℕ → ℕ) → ((i : ℕ) → i < n → f i < 2 ^ w) → Fit (tab n (λ i. field w (f i)))
 unfolding tab
 fit-tab zero w f h = none

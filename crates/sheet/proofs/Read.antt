@@ -39,6 +39,7 @@ bit-of y k h =
     let e : 8 ≡ 7 - k + 1 + k = omega arith in
     ap (λ (w : ℕ). y % 2 ^ w / 2 ^ k % 2) e ∙ ap (λ (z : ℕ). z % 2) (Pow.field y (7 - k + 1) k) ∙ Pow.mod-mod-pow (y / 2 ^ k) (7 - k) 1
 
+-- the bit at place p
 bit-at : (count x p : ℕ) → p < 8 * count → bitAt (bytesOf count x) p ≡ x / 2 ^ (8 * count - 1 - p) % 2
 bit-at count x p h =
     let k = 7 - p % 8 in
@@ -49,7 +50,7 @@ bit-at count x p h =
     ∙ ap (λ (y : ℕ). y % 2) (Pow.shr-shr x j k ∙ ap (λ (i : ℕ). x / 2 ^ i) e)
 
 -- bits of a number's bytes are bits of the number
-pub bits-of : (count x at w : ℕ) → at + w ≤ 8 * count → bitsValue (bytesOf count x) at w ≡ x / 2 ^ (8 * count - at - w) % 2 ^ w
+bits-of : (count x at w : ℕ) → at + w ≤ 8 * count → bitsValue (bytesOf count x) at w ≡ x / 2 ^ (8 * count - at - w) % 2 ^ w
 unfolding bitsValue
 bits-of count x at zero h = sym (mod-one (x / 2 ^ (8 * count - at - 0)))
 bits-of count x at (suc w) h =

@@ -8,7 +8,7 @@ use native.Mathlib.Decide.{decLt}
 use native.Mathlib.Nat.{add-zero, zero-add, mul-suc, mul-le-mul-left}
 use lib.ListN.{length, getD, length-append}
 use Rattle.lists.specs.Tab.{joined}
-use Rattle.lists.proofs.Tab.{length-joined}
+use Rattle.lists.proofs.Joined.{length-joined}
 use Rattle.bits.specs.Bits.{bitsValue}
 use Rattle.bits.proofs.Laws.{bits-ahead, bits-behind}
 use Rattle.sheet.specs.Fields.{width, Fit, none, more}
@@ -41,11 +41,11 @@ bits-joined zero k b f at w size h fits = absurd (omega arith)
 bits-joined (suc n) k b f at w size h fits =
     dite (decLt k n)
     (λ l.
-    bits-ahead (joined n f) (f n) (8 * (b * k) + at) w (omega (arith, length-joined n b f size, mul-le-mul-left b l, mul-suc b k))
+    bits-ahead (joined n f) (f n) (8 * (b * k) + at) w (omega (arith, length-joined b f size n, mul-le-mul-left b l, mul-suc b k))
     ∙ bits-joined n k b f at w size l fits)
     (λ l.
     let e : k ≡ n = omega arith in
-    rw e (bits-behind (joined n f) (f n) (b * n) at w (length-joined n b f size)))
+    rw e (bits-behind (joined n f) (f n) (b * n) at w (length-joined b f size n)))
 
 -- the header's two bytes say its numbers
 module _ (n m s : ℕ) (small-n : n < 128) (small-m : m < 32) (small-s : s < 16) where
@@ -90,12 +90,14 @@ moved {bytes} at same t =
     }
 
 module _ (n m s : ℕ) (serves processors d1s sections d2s : List ℕ) where
+  -- the bytes of the plan, and of the task in row k
   abbrev plan : List ℕ
   plan = planBytes n m s serves processors d1s sections d2s
 
   abbrev task : ℕ → List ℕ
   task = taskOf processors d1s sections d2s
 
+  -- "12 + 9n bytes"
   pub plan-size : length (planBytes n m s serves processors d1s sections d2s) ≡ 12 + 9 * n
   unfolding planBytes
   plan-size = simp length-append (omega (arith, length-header n m s, length-resources serves, length-tasks processors d1s sections d2s n))

@@ -8,7 +8,8 @@ use native.Mathlib.Nat.{add-assoc}
 use lib.ListN.{length, getD}
 use lib.Pow.{pow-mono}
 use Rattle.lists.specs.Tab.{tab, joined}
-use Rattle.lists.proofs.Tab.{tab-append, length-joined}
+use Rattle.lists.proofs.Tab.{tab-append}
+use Rattle.lists.proofs.Joined.{length-joined}
 use Rattle.sheet.specs.Fields.{width, behind, Fit, bytesOf, packed}
 use Rattle.sheet.specs.Sheet.{field, headerBytes, processorFields, resourceBytes, taskBytes, taskOf, ServesFit}
 use Rattle.sheet.proofs.Fields.{behind-append, behind-ahead, behind-lt, width-tab, fit-tab}
@@ -28,7 +29,7 @@ module _ (serves : List ℕ) where
   processors-more ahead i = rw (add-one i) (behind-append 0 (processorFields serves ahead i) (field 5 (getD serves (ahead + i + 1) 0) ∷ []))
 
   -- 5 bits for each
-  pub width-processors : (ahead count : ℕ) → width (processorFields serves ahead count) ≡ 5 * count
+  width-processors : (ahead count : ℕ) → width (processorFields serves ahead count) ≡ 5 * count
   unfolding processorFields
   width-processors ahead count = width-tab count 5 (λ r. getD serves (ahead + r + 1) 0)
 
@@ -38,6 +39,7 @@ module _ (serves : List ℕ) where
   processors-append ahead m n = simp (tab-append, add-assoc)
 
   module _ (small : ServesFit serves) where
+    -- each has its 5 bits
     processors-fit : (ahead count : ℕ) → ahead + count ≤ 16 → Fit (processorFields serves ahead count)
     unfolding processorFields
     processors-fit ahead count h = fit-tab count 5 (λ r. getD serves (ahead + r + 1) 0) (λ r l. small (ahead + r + 1) (omega arith))
@@ -82,4 +84,4 @@ module _ (processors d1s sections d2s : List ℕ) where
   length-task k = length-bytes 9 _
 
   pub length-tasks : (n : ℕ) → length (joined n (taskOf processors d1s sections d2s)) ≡ 9 * n
-  length-tasks n = length-joined n 9 (taskOf processors d1s sections d2s) length-task
+  length-tasks n = length-joined 9 (taskOf processors d1s sections d2s) length-task n

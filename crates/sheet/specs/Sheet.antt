@@ -5,6 +5,7 @@ use lib.ListN.{getD}
 use Rattle.lists.specs.Tab.{tab, joined}
 use Rattle.sheet.specs.Fields.{Field, packed}
 
+-- so many bits for a number
 abbrev pub field : ℕ → ℕ → Field
 field width value = record { width = width; value = value }
 

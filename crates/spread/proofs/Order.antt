@@ -22,20 +22,24 @@ row : List ℕ → ℕ → ℕ
 row weights j = rowOf (ranksOf (lacksOf weights) 16) 16 j
 
 module _ (weights : List ℕ) where
+  -- what resource r + 1 lacks
   lack : (r : ℕ) → r < 16 → getD (lacksOf weights) r 0 ≡ 64000000 - getD weights (r + 1) 0
   unfolding lacksOf
   lack r l = getD-filled 64 0 (λ r. 64000000 - getD weights (r + 1) 0) 16 r 0 l
 
+  -- it is one of 16
   row-lt : (j : ℕ) → j < 16 → row weights j < 16
   unfolding row
   row-lt j l = rank-of-row (lacksOf weights) (ranksOf (lacksOf weights) 16) 16 (omega arith) refl j l .0
 
+  -- and its rank is j
   row-rank : (j : ℕ) → j < 16 → rankOf (lacksOf weights) 16 (row weights j) ≡ j
   unfolding row
   row-rank j l =
       let (h, e) = rank-of-row (lacksOf weights) (ranksOf (lacksOf weights) 16) 16 (omega arith) refl j l in
       sym (rank-at (lacksOf weights) (ranksOf (lacksOf weights) 16) 16 (omega arith) refl (row weights j) h) ∙ e
 
+  -- the resource at place j
   place : (j : ℕ) → j < 16 → getD (heaviestOf weights) j 0 ≡ row weights j + 1
   unfolding heaviestOf row
   place j l =

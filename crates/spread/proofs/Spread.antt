@@ -2,7 +2,7 @@
 use Prim.Native.Nat.{ℕ, zero, suc, _+_, _*_, _<_, _≤_}
 use mathlib.Core.Path.{_≡_, sym, _∙_, ap}
 use mathlib.Core.Logic.{_↔_, dite}
-use mathlib.Core.List.{List, [], _∷_}
+use mathlib.Core.List.{List}
 use mathlib.Core.Bool.{cond}
 use native.Mathlib.Omega.{arith}
 use native.Mathlib.Decide.{decLt, ℕ-discrete}
@@ -13,11 +13,13 @@ use lib.Dec.{ltb}
 use borrow.Author.Tests.{lt-ltb, le-ltb}
 use Rattle.lists.specs.Tab.{blank}
 use Rattle.lists.proofs.Tab.{getD-blank}
+use Rattle.lists.proofs.Sets.{set-within}
 use Rattle.spread.specs.Weight.{GoodWeights, usedOf, heaviestOf}
 use Rattle.spread.specs.Spread.{lightestOf, Lightest, loaded, loadsOf, servesOf}
 use Rattle.spread.proofs.Weight.{used-le}
 use Rattle.spread.proofs.Order.{heaviest-in, heaviest-has, heaviest-used}
 
+-- one processor more
 pub lightest-more : (loads : List ℕ) (p : ℕ) → lightestOf loads (p + 1) ≡ cond (ltb (getD loads (p + 1) 0) (getD loads (lightestOf loads p) 0)) (p + 1) (lightestOf loads p)
 unfolding lightestOf
 lightest-more loads p = rw (add-one p)
@@ -47,6 +49,7 @@ module _ (loads : List ℕ) where
         lower = x .lower;
       })
 
+  -- the one that is found is the least loaded, and of those the lowest-numbered
   pub lightest-is : (s : ℕ) → 1 ≤ s → Lightest loads s (lightestOf loads s)
   unfolding lightestOf
   lightest-is zero h = absurd (omega arith)
@@ -59,19 +62,13 @@ module _ (loads : List ℕ) where
       }
   lightest-is (suc (suc s)) h = lightest-next (suc s) (lightestOf loads (suc s)) (lightest-is (suc s) (omega arith))
 
--- after a store no place holds more than b, if none did and what is stored is no more
-set-le : (l : List ℕ) (i a q b : ℕ) → getD l q 0 ≤ b → a ≤ b → getD (set l i a) q 0 ≤ b
-set-le [] i a q b h k = h
-set-le (x ∷ l) zero a zero b h k = k
-set-le (x ∷ l) zero a (suc q) b h k = h
-set-le (x ∷ l) (suc i) a zero b h k = h
-set-le (x ∷ l) (suc i) a (suc q) b h k = set-le l i a q b h k
-
 module _ (weights order : List ℕ) (s : ℕ) where
+  -- one resource more is loaded
   pub loads-more : (j : ℕ) → loadsOf weights order s (j + 1) ≡ loaded (loadsOf weights order s j) (lightestOf (loadsOf weights order s j) s) (getD weights (getD order j 0) 0)
   unfolding loadsOf
   loads-more j = rw add-one
 
+  -- and has its processor
   pub serves-more : (j : ℕ) → servesOf weights order s (j + 1) ≡ set (servesOf weights order s j) (getD order j 0) (lightestOf (loadsOf weights order s j) s)
   unfolding servesOf
   serves-more j = rw add-one
@@ -83,17 +80,16 @@ module _ (weights order : List ℕ) (s : ℕ) where
   loads-le (suc j) small q =
       let p : ℕ = lightestOf (loadsOf weights order s j) s in
       let before : (q : ℕ) → getD (loadsOf weights order s j) q 0 ≤ j * 64000000 = loads-le j (λ i l. small i (omega arith)) in
-      set-le (loadsOf weights order s j) p (getD (loadsOf weights order s j) p 0 + getD weights (getD order j 0) 0) q (suc j * 64000000)
-      (omega (arith, before q))
-      (omega (arith, before p, small j (omega arith)))
+      set-within (loadsOf weights order s j) (λ q. suc j * 64000000) p _ (λ q. omega (arith, before q)) (omega (arith, before p, small j (omega arith))) q
 
-  pub serves-length : (j : ℕ) → length (servesOf weights order s j) ≡ 17
+  -- each resource has a place
+  serves-length : (j : ℕ) → length (servesOf weights order s j) ≡ 17
   unfolding servesOf blank
   serves-length zero = length-replicate {A = ℕ} 17 0
   serves-length (suc j) = length-set (servesOf weights order s j) (getD order j 0) (lightestOf (loadsOf weights order s j) s) ∙ serves-length j
 
   -- who has not been given to a processor has none
-  pub serves-none : (j r : ℕ) → ((i : ℕ) → i < j → getD order i 0 ≡ r → ⊥) → getD (servesOf weights order s j) r 0 ≡ 0
+  serves-none : (j r : ℕ) → ((i : ℕ) → i < j → getD order i 0 ≡ r → ⊥) → getD (servesOf weights order s j) r 0 ≡ 0
   unfolding servesOf
   serves-none zero r other = getD-blank {A = ℕ} 17 0 r
   serves-none (suc j) r other =
@@ -106,12 +102,10 @@ module _ (weights order : List ℕ) (s : ℕ) where
   serves-le zero some r = omega (arith, getD-blank {A = ℕ} 17 0 r)
   serves-le (suc j) some r =
       let one : 1 ≤ s = some (omega arith) in
-      set-le (servesOf weights order s j) (getD order j 0) (lightestOf (loadsOf weights order s j) s) r s
-      (serves-le j (λ l. one) r)
-      (lightest-is (loadsOf weights order s j) s one .last)
+      set-within (servesOf weights order s j) (λ r. s) (getD order j 0) _ (serves-le j (λ l. one)) (lightest-is (loadsOf weights order s j) s one .last) r
 
   -- each of the first j resources of the order has a processor
-  pub serves-given : (j : ℕ) → 1 ≤ s → ((i : ℕ) → i < j → getD order i 0 ≤ 16) → (i : ℕ) → i < j → 1 ≤ getD (servesOf weights order s j) (getD order i 0) 0
+  serves-given : (j : ℕ) → 1 ≤ s → ((i : ℕ) → i < j → getD order i 0 ≤ 16) → (i : ℕ) → i < j → 1 ≤ getD (servesOf weights order s j) (getD order i 0) 0
   unfolding servesOf
   serves-given zero some small i l = absurd (omega arith)
   serves-given (suc j) some small i l =

@@ -19,8 +19,8 @@ use Rattle.bounds.specs.Demand.{ceil}
 use Rattle.spread.specs.Weight.{GoodRows, GoodWeights, weightOf, weightsOf, usedOf, Used}
 
 -- the quotient of less than 2^32 periods fits 32 bits
-pub quotient-fits : (x period : ℕ) → 1 ≤ period → x < 4294967296 * period → Fits w32 (x / period)
-quotient-fits x period a h = omega (arith, div-lt-iff-lt-mul {k = period} {x = x} {y = 4294967296} (omega arith) .1 h)
+pub quotient-fits : (x period : ℕ) → x < 4294967296 * period → Fits w32 (x / period)
+quotient-fits x period h = omega (arith, div-lt-iff-lt-mul {k = period} {x = x} {y = 4294967296} (omega arith) .1 h)
 
 -- a user weighs at most a million, since its section is no longer than its period
 pub user-le : (section period : ℕ) → 1 ≤ period → section ≤ period → ceil (section * 1000000) period ≤ 1000000
@@ -28,15 +28,18 @@ unfolding ceil
 user-le section period a b =
     omega (arith, div-lt-iff-lt-mul {k = period} {x = section * 1000000 + (period - 1)} {y = 1000001} (omega arith) .1 (omega arith))
 
+-- and so does a row, whether it is a user or not
 part-le : (b : Bool) (x : ℕ) → x ≤ 1000000 → cond b x 0 ≤ 1000000
 part-le true x h = h
 part-le false x h = zero-le
 
 module _ (periods sections resources : List ℕ) where
+  -- one user more
   pub weight-more : (k r : ℕ) → weightOf periods sections resources (k + 1) r ≡ weightOf periods sections resources k r + cond (uses (getD resources k 0) r) (ceil (getD sections k 0 * 1000000) (getD periods k 0)) 0
   unfolding weightOf
   weight-more k r = rw add-one
 
+  -- n users weigh at most n million
   weight-le : (n r : ℕ) → GoodRows periods sections n → weightOf periods sections resources n r ≤ n * 1000000
   unfolding weightOf
   weight-le zero r good = zero-le
@@ -67,6 +70,7 @@ user-pos section period a b =
     (λ h. omega arith)
 
 module _ (periods sections resources : List ℕ) (r : ℕ) where
+  -- what weighs something has a user
   weighed : (n : ℕ) → 0 < weightOf periods sections resources n r → Used resources r n
   unfolding weightOf
   weighed zero h = absurd (omega arith)
@@ -78,6 +82,7 @@ module _ (periods sections resources : List ℕ) (r : ℕ) where
           let (k, l, u) = ih (omega arith) in
           (k, omega arith, u)
 
+  -- and what has a user weighs something
   weighs-by : (n k : ℕ) → k < n → uses (getD resources k 0) r ≡ true → 1 ≤ getD periods k 0 → 1 ≤ getD sections k 0 → 0 < weightOf periods sections resources n r
   unfolding weightOf
   weighs-by zero k l u a b = absurd (omega arith)

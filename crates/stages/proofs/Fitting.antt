@@ -8,6 +8,7 @@ use native.Mathlib.Omega.{arith}
 use native.Mathlib.Decide.{decLt}
 use borrow.Author.Tests.{lt-ltb, le-ltb, ltb-true, ltb-false}
 use lib.Dec.{ltb}
+use Rattle.lists.proofs.Tests.{clash}
 use Rattle.lists.proofs.First.{first-no, first-yes, first-is, first-none, first-ext}
 use Rattle.bounds.specs.Demand.{Term}
 use Rattle.bounds.specs.Bound.{boundOf, LeastBound}
@@ -20,14 +21,17 @@ use Rattle.stages.specs.declared.Fit.the-variants.{Fits, Not}
 use Rattle.stages.specs.declared.Place.the-variants.{On, Nowhere}
 
 module _ (terms : List Term) (c1 c2 s t : ℕ) where
+  -- without a first bound there is no fit,
   pub fit-first : boundOf terms c1 0 (t - s) ≡ Missing → fitAmong terms c1 c2 s t ≡ Not
   unfolding fitAmong fitOf
   fit-first e = rw e
 
+  -- nor without a second one;
   pub fit-second : (d1 : ℕ) → boundOf terms c1 0 (t - s) ≡ At d1 → boundOf terms c2 0 (t - s) ≡ Missing → fitAmong terms c1 c2 s t ≡ Not
   unfolding fitAmong fitOf
   fit-second d1 e f = rw (e, f)
 
+  -- with both it is a matter of their sum
   pub fit-both : (d1 d2 : ℕ) → boundOf terms c1 0 (t - s) ≡ At d1 → boundOf terms c2 0 (t - s) ≡ At d2 → fitAmong terms c1 c2 s t ≡ cond (ltb t (d1 + s + d2)) Not (Fits d1 d2)
   unfolding fitAmong fitOf
   fit-both d1 d2 e f = rw (e, f)
@@ -43,15 +47,15 @@ module _ (terms : List Term) (c1 c2 s t : ℕ) where
   )
     where
       fit : (u v : ℕ) (b : Bool) → ltb t (u + s + v) ≡ b → LeastBound terms c1 0 u → LeastBound terms c2 0 v → cond b Not (Fits u v) ≡ Fits d1 d2 → LeastBound terms c1 0 d1 × LeastBound terms c2 0 d2 × (d1 + s + d2 ≤ t)
-      fit u v true e x y h = let z : _≡_ {A = ℕ} 0 1 = cc in absurd (omega arith)
+      fit u v true e x y h = clash cc
       fit u v false e x y h =
           let p : u ≡ d1 = cc in
           let q : v ≡ d2 = cc in
           (rw (sym p) x, rw (sym q) y, omega (arith, ltb-false t (u + s + v) e))
 
       bounds : (x y : Bound) → boundOf terms c1 0 (t - s) ≡ x → boundOf terms c2 0 (t - s) ≡ y → fitAmong terms c1 c2 s t ≡ Fits d1 d2 → LeastBound terms c1 0 d1 × LeastBound terms c2 0 d2 × (d1 + s + d2 ≤ t)
-      bounds Missing y e f h = let q = sym (fit-first e) ∙ h in let z : _≡_ {A = ℕ} 0 1 = cc in absurd (omega arith)
-      bounds (At u) Missing e f h = let q = sym (fit-second u e f) ∙ h in let z : _≡_ {A = ℕ} 0 1 = cc in absurd (omega arith)
+      bounds Missing y e f h = let q = sym (fit-first e) ∙ h in clash cc
+      bounds (At u) Missing e f h = let q = sym (fit-second u e f) ∙ h in clash cc
       bounds (At u) (At v) e f h =
           fit u v (ltb t (u + s + v)) refl (bound-exactly terms 0 (t - s) u c1 .0 e .0) (bound-exactly terms 0 (t - s) v c2 .0 f .0) (sym (fit-both u v e f) ∙ h)
 
@@ -60,6 +64,7 @@ module _ (fit : ℕ → Fit) (s m : ℕ) where
   abbrev pub NoFit : ℕ → Type 0
   NoFit p = (q : ℕ) → s < q → q < p → fit q ≡ Not
 
+  -- one processor more has none
   pub no-fit-more : (p : ℕ) → NoFit p → fit p ≡ Not → NoFit (p + 1)
   no-fit-more p h e q a b = dite (decLt q p) (λ l. h q a l) (λ l. let z : q ≡ p = omega arith in rw z e)
 
@@ -72,6 +77,7 @@ module _ (fit : ℕ → Fit) (s m : ℕ) where
       let x : firstFit fit (s + 1) (m - s) ≡ p = ap (λ (q : ℕ). s + 1 + q) (first-is (m - s) (λ q. isFit (fit (s + 1 + q))) (p - (s + 1)) (omega arith) (λ j l. ap isFit (h (s + 1 + j) (omega arith) (omega arith))) y) ∙ z in
       rw (x, le-ltb m p b, e)
 
+  -- and where none has one there is no place
   pub place-none : s < m → NoFit (m + 1) → placeAmong fit s m ≡ Nowhere
   unfolding placeAmong
   place-none a h =
@@ -90,8 +96,9 @@ place-ext fit other s m h = rw x (go (ltb m (firstFit other (s + 1) (m - s))) re
     go true e = refl
     go false e = rw (h (firstFit other (s + 1) (m - s)) (omega arith) (ltb-false m (firstFit other (s + 1) (m - s)) e))
 
+-- what is no fit is `Not`
 not-fit : (f : Fit) → isFit f ≡ false → f ≡ Not
-not-fit (Fits d1 d2) e = let z : _≡_ {A = ℕ} 0 1 = cc in absurd (omega arith)
+not-fit (Fits d1 d2) e = clash cc
 not-fit Not e = refl
 
 -- below the first that has a fit, none has one
@@ -109,8 +116,8 @@ place-in fit s m p d1 d2 h = go (ltb m (firstFit fit (s + 1) (m - s))) refl (fit
     x = firstFit fit (s + 1) (m - s)
 
     go : (b : Bool) → ltb m x ≡ b → (f : Fit) → fit x ≡ f → cond b Nowhere (placeWith x f) ≡ On p d1 d2 → (s < p) × (p ≤ m) × (fit p ≡ Fits d1 d2) × NoFit fit s m p
-    go true e f g h = let z : _≡_ {A = ℕ} 0 1 = cc in absurd (omega arith)
-    go false e Not g h = let z : _≡_ {A = ℕ} 0 1 = cc in absurd (omega arith)
+    go true e f g h = clash cc
+    go false e Not g h = clash cc
     go false e (Fits u v) g h =
         let q : x ≡ p = cc in
         let y : Fits u v ≡ Fits d1 d2 = cc in
@@ -126,9 +133,8 @@ place-out fit s m h = go (ltb m (firstFit fit (s + 1) (m - s))) refl (fit (first
 
     go : (b : Bool) → ltb m x ≡ b → (f : Fit) → fit x ≡ f → cond b Nowhere (placeWith x f) ≡ Nowhere → NoFit fit s m (m + 1)
     go true e f g h = before-fit fit s m (m + 1) (omega (arith, ltb-true m x e))
-    go false e (Fits u v) g h = let z : _≡_ {A = ℕ} 0 1 = cc in absurd (omega arith)
+    go false e (Fits u v) g h = clash cc
     go false e Not g h =
         let l : x ≤ m = ltb-false m x e in
         let y : _≡_ {A = Bool} true false = sym (first-yes (m - s) (λ q. isFit (fit (s + 1 + q))) (omega arith)) ∙ ap isFit g in
-        let z : _≡_ {A = ℕ} 0 1 = cc in
-        absurd (omega arith)
+        clash cc

@@ -11,6 +11,7 @@ use borrow.Author.Count.{below-more}
 use lib.ListN.{length, getD, set, length-set}
 use lib.Seq.{getD-set-same, getD-set-other}
 use Rattle.lists.specs.Tab.{blank, filled}
+use Rattle.lists.proofs.Tests.{clash}
 use Rattle.lists.proofs.Tab.{filled-none, filled-next, getD-filled, length-blank}
 use Rattle.lists.proofs.First.{first-no, first-le, first-is, first-none}
 use Rattle.bounds.specs.Demand.{GoodTerm}
@@ -28,6 +29,7 @@ use Rattle.stages.specs.declared.Place.the-variants.{On, Nowhere}
 use Rattle.stages.proofs.Fitting.{fits-exactly, place-at, place-none, place-ext, place-in, place-out}
 
 module _ (periods c1s c2s works sections : List ℕ) (s m : ℕ) where
+  -- a place for each of 64 tasks
   pub length-placed : (k : ℕ) → length (placed periods c1s c2s works sections s m k) ≡ 64
   unfolding placed placeOf
   length-placed zero = length-blank 64 0
@@ -38,7 +40,7 @@ module _ (periods c1s c2s works sections : List ℕ) (s m : ℕ) where
   good-term n g k l = record { period = g .period k l; short = g .work k l .1 }
 
   -- each of the first k tasks has a place
-  abbrev pub Fit-so-far : ℕ → Type 0
+  abbrev Fit-so-far : ℕ → Type 0
   Fit-so-far k = (j : ℕ) → j < k → isNowhere (placeOf periods c1s c2s works sections s m j) ≡ false
 
   -- the arrays hold the places of the first k tasks
@@ -48,6 +50,7 @@ module _ (periods c1s c2s works sections : List ℕ) (s m : ℕ) where
     pub d2s : zs ≡ filled 64 0 k (λ j. d2Of (placeOf periods c1s c2s works sections s m j))
     pub so-far : Fit-so-far k
 
+  -- blank arrays hold no task
   pub held-none : (xs ys zs : List ℕ) → xs ≡ blank 64 0 → ys ≡ blank 64 0 → zs ≡ blank 64 0 → Held 0 xs ys zs
   unfolding placed
   held-none xs ys zs e f g =
@@ -78,12 +81,14 @@ module _ (periods c1s c2s works sections : List ℕ) (s m : ℕ) where
   unfolding placeOf fitOn
   place-found k l h x = rw (sym (h .processors)) (place-ext _ _ s m (λ p a b. rw (x .holds p (omega arith))))
 
+  -- a placed task's term goes to the lane of its processor
   pub lanes-next : {ps ls counts xs : List ℕ} (k p c : ℕ) → k < 64 → p < 17 → length xs ≡ 64 → getD counts p 0 ≡ c → Lanes periods works xs ps ls counts k →
       Lanes periods works (set xs k p) (set ps (64 * p + c) (getD periods k 0)) (set ls (64 * p + c) (getD works k 0)) (set counts p (c + 1)) (k + 1)
   lanes-next {xs = xs} k p c l b n e x =
       lanes-more periods works k p c l b (getD-set-same xs k p 0 (omega arith)) e
       (lanes-same periods works (λ i a. sym (getD-set-other xs k i p 0 (λ z. omega arith))) x)
 
+  -- what is held up to the first that fits none is the answer
   ended : {xs ys zs : List ℕ} (n k : ℕ) → Held k xs ys zs → firstNowhere periods c1s c2s works sections s m n ≡ k → record { nowhere = k; processor = xs; d1 = ys; d2 = zs } ≡ stagesOf periods c1s c2s works sections s m n
   unfolding stagesOf stagesTo
   ended n k h e = rw (e, h .processors, h .d1s, h .d2s)
@@ -93,12 +98,13 @@ module _ (periods c1s c2s works sections : List ℕ) (s m : ℕ) where
   unfolding firstNowhere
   stages-nowhere n k l h e = ended n k h (first-is n (λ k. isNowhere (placeOf periods c1s c2s works sections s m k)) k l (h .so-far) (ap isNowhere e))
 
+  -- and where each fits one, all are held
   pub stages-all : {xs ys zs : List ℕ} (n : ℕ) → Held n xs ys zs → record { nowhere = n; processor = xs; d1 = ys; d2 = zs } ≡ stagesOf periods c1s c2s works sections s m n
   unfolding firstNowhere
   stages-all n h = ended n n h (first-none n (λ k. isNowhere (placeOf periods c1s c2s works sections s m k)) (h .so-far))
 
   -- tasks that are placed later leave a task where it is
-  pub placed-keeps : (n k i : ℕ) → i < k → k ≤ n → getD (placed periods c1s c2s works sections s m n) i 0 ≡ getD (placed periods c1s c2s works sections s m k) i 0
+  placed-keeps : (n k i : ℕ) → i < k → k ≤ n → getD (placed periods c1s c2s works sections s m n) i 0 ≡ getD (placed periods c1s c2s works sections s m k) i 0
   unfolding placed placeOf
   placed-keeps zero k i l h = absurd (omega arith)
   placed-keeps (suc n) k i l h =
@@ -106,6 +112,7 @@ module _ (periods c1s c2s works sections : List ℕ) (s m : ℕ) where
       (λ e. ap (λ (j : ℕ). getD (placed periods c1s c2s works sections s m j) i 0) (sym e))
       (λ d. getD-set-other (placed periods c1s c2s works sections s m n) n i (processorOf (placeOf periods c1s c2s works sections s m n)) 0 (λ e. omega arith) ∙ placed-keeps n k i l (omega arith))
 
+  -- a task's processor
   placed-at : (n k : ℕ) → k < n → k < 64 → getD (placed periods c1s c2s works sections s m n) k 0 ≡ processorOf (placeOf periods c1s c2s works sections s m k)
   unfolding placed placeOf
   placed-at n k l b =
@@ -144,8 +151,7 @@ module _ (periods c1s c2s works sections : List ℕ) (s m : ℕ) where
   never-placed : (k p d1 d2 : ℕ) → fitOn periods c1s c2s works sections s m (placed periods c1s c2s works sections s m k) k p ≡ Not → Placed (placed periods c1s c2s works sections s m k) k p d1 d2 → ⊥
   never-placed k p d1 d2 e x =
       let q : Not ≡ Fits d1 d2 = sym e ∙ fit-placed k p d1 d2 (x .0) (x .1) .1 x in
-      let z : _≡_ {A = ℕ} 0 1 = cc in
-      omega arith
+      clash cc
 
   -- a task goes to "the lowest-numbered application processor that it fits"
   pub place-exactly : (k p d1 d2 : ℕ) → (placeOf periods c1s c2s works sections s m k ≡ On p d1 d2)
@@ -191,4 +197,4 @@ module _ (periods c1s c2s works sections : List ℕ) (s m : ℕ) where
           let (a, b, x, y, z) = place-exactly k p d1 d2 .0 q .0 in
           let o : termsOn periods works (placed periods c1s c2s works sections s m e) p k ≡ termsOn periods works (placed periods c1s c2s works sections s m k) p k = on-same periods works _ _ p k (λ i j. placed-keeps e k i j (omega arith)) in
           (a, b, rw o x, rw o y, z)
-      go Nowhere q h = let z : _≡_ {A = ℕ} 0 1 = cc in absurd (omega arith)
+      go Nowhere q h = clash cc

@@ -23,6 +23,7 @@ fitOf Missing b section period = Not
 unfoldable pub fitAmong : List Term → ℕ → ℕ → ℕ → ℕ → Fit
 fitAmong terms c1 c2 section period = fitOf (boundOf terms c1 0 (period - section)) (boundOf terms c2 0 (period - section)) section period
 
+-- whether the task fits
 abbrev pub isFit : Fit → Bool
 isFit (Fits d1 d2) = true
 isFit Not = false
@@ -31,6 +32,7 @@ isFit Not = false
 abbrev pub firstFit : (ℕ → Fit) → ℕ → ℕ → ℕ
 firstFit fit from count = from + first count (λ q. isFit (fit (from + q)))
 
+-- the place of a task with this fit on processor p
 unfoldable pub placeWith : ℕ → Fit → Place
 placeWith p (Fits d1 d2) = On p d1 d2
 placeWith p Not = Nowhere

@@ -4,6 +4,7 @@ use mathlib.Core.List.{List}
 use mathlib.Core.Path.{_≡_}
 use lib.ListN.{getD}
 
+-- at most 64 tasks on processors s + 1 to m, with periods of a good table and lengths and section bounds within them
 pub record GoodStages (periods c1s c2s works sections : List ℕ) (n s m : ℕ) : Type 0 where
   pub few : n ≤ 64
   pub processors : (s < m) × (m ≤ 16)

@@ -48,9 +48,10 @@ module _ (periods c1s c2s works sections : List ℕ) (s m : ℕ) where
   unfoldable pub firstNowhere : ℕ → ℕ
   firstNowhere n = first n (λ k. isNowhere (placeOf k))
 
-  -- the places up to there
+  -- the places of the first k tasks
   unfoldable pub stagesTo : ℕ → Stages
   stagesTo k = record { nowhere = k; processor = placed k; d1 = filled 64 0 k (λ j. d1Of (placeOf j)); d2 = filled 64 0 k (λ j. d2Of (placeOf j)) }
 
+  -- the places up to the first task that fits none
   unfoldable pub stagesOf : ℕ → Stages
   stagesOf n = stagesTo (firstNowhere n)

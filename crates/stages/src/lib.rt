@@ -10,13 +10,13 @@ ghost use Rattle.stages.specs.Good.{GoodStages};
 use bounds::Bound;
 
 // The bounds D1 and D2 of a task on a processor, or that it does not fit there.
-pub enum Fit {
+enum Fit {
     Fits(u32, u32),
     Not,
 }
 
 // A task's processor, D1 and D2, or that it fits none.
-pub enum Place {
+enum Place {
     On(u32, u32, u32),
     Nowhere,
 }

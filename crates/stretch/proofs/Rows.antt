@@ -32,6 +32,7 @@ module _ (rows homes : List ℕ) (t k i : ℕ) (x : Job) where
       go (Waiting u j) e = same
       go (Running j l) e = by-test (eqb (getD rows (home homes i j) 0) (suc i)) j l e refl
 
+  -- where a processor picks it
   pub push-runs : (j l : ℕ) → x .place ≡ Running j l → getD rows (home homes i j) 0 ≡ suc i → pushRow rows homes t k i x ≡ pushed t k x j l
   unfolding pushRowAt
   push-runs j l e p = ap (pushRowAt rows homes t k i x) e ∙ rw (eq-eqb _ _ p)

@@ -18,7 +18,7 @@ use Rattle.chain.specs.Release.{dueOf}
 use Rattle.chain.specs.Unit.{pushAt, push}
 use Rattle.chain.specs.Good.{GoodJob, Lasts, partOf}
 use Rattle.chain.proofs.Keeps.{good-unit}
-use Rattle.chain.proofs.Before.{lens-unit}
+use Rattle.chain.proofs.Counts.{lens-unit}
 use Rattle.chain.proofs.Pushed.{good-push, ended-push, ran-push, lens-push}
 use Rattle.jobs.specs.Numbers.{numbersOf, jobIn, jobsIn}
 use Rattle.jobs.proofs.Laws.{length-jobs, jobs-at, lens-in, jobs-put, jobs-are}
@@ -38,10 +38,12 @@ picked-le picked P all q l = go (getD picked q 0) refl
 
 -- a job that has k ticks left of what it runs can run k units, and then one more
 module _ {t k : ℕ} {x y : Job} (r : Ready t k x) (e : y ≡ x) where
+  -- it can be pushed,
   pub push-fits : t + k < 1000000 → (t ≤ 1000000) × (y .ran + k < 4294967296) × Lasts k (y .place)
   push-fits h = rw e (omega arith, omega (arith, r .ran), r .lasts)
 
   module _ {z : Job} (f : z ≡ push t k y) where
+    -- and is good then, with counts that fit 32 bits
     pub push-good : GoodJob z
     push-good = rw (f, e) (good-push t k x (r .good))
 
@@ -53,21 +55,25 @@ module _ {t k : ℕ} {x y : Job} (r : Ready t k x) (e : y ≡ x) where
 
 -- row i's job, read, pushed and served
 module _ (picked bounds homes flat : List ℕ) (i : ℕ) {t k : ℕ} {x y z : Job} (r : Ready t k (jobIn flat i)) (e : x ≡ jobIn flat i) (f : y ≡ push t k x) (g : z ≡ serve picked bounds homes (t + k) i y) where
+  -- what it comes to
   served-is : z ≡ serve picked bounds homes (t + k) i (push t k (jobIn flat i))
   served-is = rw (sym e, sym f) g
 
+  -- it is good,
   pub good-served : GoodJob z
   good-served =
       let w = push-good r e f in
       rw g (serve-cases GoodJob picked bounds homes (t + k) i y w (λ j l p. good-unit bounds i (t + k) y j l (w .arrived) (part-small (y .place) j l (w .part) p)))
 
+  -- with three lengths
   lens-served : length (z .lens) ≡ 3
   lens-served =
       let three : length (y .lens) ≡ 3 = rw (f, e) (ap length (lens-push t k (jobIn flat i)) ∙ lens-in flat i) in
-      rw g (serve-cases (λ y. length (y .lens) ≡ 3) picked bounds homes (t + k) i y three (λ j l p. lens-unit bounds i (t + k) y three j l))
+      rw g (serve-cases (λ y. length (y .lens) ≡ 3) picked bounds homes (t + k) i y three (λ j l p. ap length (lens-unit bounds i (t + k) y j l) ∙ three))
 
   -- it stands in the row's numbers once it is put there
   module _ {next : List ℕ} (h : i < 64) (l : length flat ≡ 576) (n : next ≡ sets flat (9 * i) (numbersOf z)) where
+    -- among all jobs
     put-served : jobsIn next ≡ set (jobsIn flat) i z
     put-served = rw n (jobs-put flat i z h l (good-served .part) lens-served)
 
@@ -120,6 +126,7 @@ module _ (picked homes : List ℕ) (t k : ℕ) (was : List ℕ) (picks : Picks p
   fresh : (q i : ℕ) → q < 17 → getD picked q 0 ≡ suc i → (p : ℕ) → p < q → getD picked p 0 ≡ suc i → ⊥
   fresh q i l e p b f = absurd (omega (arith, home-of q i l e, home-of p i (omega arith) f))
 
+-- before the first processor none has run
 pub ran-start : (picked bounds homes : List ℕ) (t k : ℕ) (was old : List ℕ) → Ran picked bounds homes t k was old 0 was old
 ran-start picked bounds homes t k was old = record { left = λ i h n. (refl, refl); run = λ p l. absurd (omega arith) }
 
@@ -130,12 +137,15 @@ module _ {picked bounds homes : List ℕ} {t k : ℕ} {was old : List ℕ} {q : 
 
   -- or which picks a row that has not run yet
   module _ (picks : Picks picked homes t k (jobsIn was)) (i : ℕ) (l : q < 17) (e : getD picked q 0 ≡ suc i) where
+    -- the row has not run yet,
     once : (p : ℕ) → p < q → getD picked p 0 ≡ suc i → ⊥
     once = fresh picked homes t k was picks q i l e
 
+    -- so its job is as at the start,
     same-here : jobIn flat i ≡ jobIn was i
     same-here = r .left i (picks q i l e .0) once .0
 
+    -- and can run
     pub ready-next : Ready t k (jobIn flat i)
     ready-next =
         let p = picks q i l e in
@@ -159,9 +169,11 @@ module _ {picked bounds homes : List ℕ} {t k : ℕ} {was old : List ℕ} {q : 
           ∙ ap (λ (x : Job). serve picked bounds homes (t + k) i (push t k x)) same-here
           ∙ ap (serve picked bounds homes (t + k) i) (push-picked picked bounds homes t k q i _ _ (jobIn was i) (place-in picked homes t k was picks q i l e) (p .1 .home-is) e)
 
+      -- and its next release is known
       here : (jobIn next i ≡ after picked bounds homes t k i (jobIn was i)) × (getD due′ i 0 ≡ dueOf bounds i (after picked bounds homes t k i (jobIn was i)))
       here = (job-here, rw g (getD-set-same due i _ 0 (omega (arith, b, picks q i l e .0)) ∙ ap (dueOf bounds i) job-here))
 
+      -- so one processor more has run its row
       pub ran-more : Ran picked bounds homes t k was old (q + 1) next due′
       ran-more =
           record {
@@ -176,6 +188,7 @@ module _ {picked bounds homes : List ℕ} {t k : ℕ} {was old : List ℕ} {q : 
 
 -- when all processors are passed, each row has run that one picks, and the others stay
 module _ {picked bounds homes : List ℕ} {t k : ℕ} {was old flat due : List ℕ} (r : Ran picked bounds homes t k was old 17 flat due) (picks : Picks picked homes t k (jobsIn was)) (few : (q : ℕ) → getD homes q 0 ≤ 16) where
+  -- row by row
   ran-row : (i : ℕ) → i < 64 → (jobIn flat i ≡ after picked bounds homes t k i (jobIn was i)) × (getD old i 0 ≡ dueOf bounds i (jobIn was i) → getD due i 0 ≡ dueOf bounds i (jobIn flat i))
   ran-row i l = go (eqb (getD picked h 0) (suc i)) refl
     where
@@ -192,8 +205,10 @@ module _ {picked bounds homes : List ℕ} {t k : ℕ} {was old flat due : List �
           let same = after-none picked bounds homes t k i (jobIn was i) (λ j m f c. n (ap (λ (x : Place). getD picked (home homes i (partOf x)) 0) f ∙ c)) in
           (a ∙ sym same, λ o. d ∙ o ∙ ap (dueOf bounds i) (sym a))
 
+  -- the jobs,
   pub ran-jobs : jobsIn flat ≡ tab 64 (λ i. after picked bounds homes t k i (jobIn was i))
   ran-jobs = jobs-are (jobsIn flat) _ (length-jobs flat) (λ i l. jobs-at flat i l ∙ ran-row i l .0)
 
+  -- and their next releases
   pub ran-due : (i : ℕ) → i < 64 → getD old i 0 ≡ dueOf bounds i (jobIn was i) → getD due i 0 ≡ dueOf bounds i (jobIn flat i)
   ran-due i l = ran-row i l .1

@@ -1,34 +1,30 @@
 -- A stretch: what its functions found is what the ticks do one by one.
-use Prim.Native.Nat.{ℕ, zero, suc, _+_, _-_, _*_, _≤_, _<_}
+use Prim.Native.Nat.{ℕ, zero, suc, _+_, _≤_, _<_}
 use mathlib.Core.Path.{_≡_, refl, sym, _∙_, ap}
-use mathlib.Core.Bool.{cond}
 use mathlib.Core.List.{List}
 use mathlib.Core.Logic.{dite}
 use native.Mathlib.Omega.{arith}
 use native.Mathlib.Decide.{decLt}
 use native.Mathlib.Numerals.{add-one}
 use lib.ListN.{getD, length}
-use lib.Dec.{eqb}
-use borrow.Author.Tests.{eq-eqb}
 use Rattle.lists.specs.Tab.{tab, filled}
 use Rattle.lists.proofs.Tab.{length-tab, getD-tab, tab-filled, getD-filled, getD-rest}
-use Rattle.chain.specs.declared.Place.{Place}
-use Rattle.chain.specs.declared.Place.the-variants.{Idle, Waiting, Running}
+use Rattle.chain.specs.declared.Place.the-variants.{Running}
 use Rattle.chain.specs.declared.Job.{Job}
 use Rattle.chain.specs.Job.{noJob, jobAt}
 use Rattle.chain.specs.Release.{released, dueOf}
 use Rattle.chain.specs.Good.{GoodJob, Lasts}
-use Rattle.chain.specs.Unit.{pushed, pushAt, push}
+use Rattle.chain.specs.Unit.{push}
 use Rattle.jobs.specs.Numbers.{jobIn, jobsIn}
 use Rattle.jobs.proofs.Laws.{jobs-at}
-use Rattle.picks.specs.Pick.{home, pick}
-use Rattle.picks.proofs.Picked.{Runs, pick-runs}
+use Rattle.picks.specs.Pick.{pick}
+use Rattle.picks.proofs.Picked.{Runs}
 use Rattle.arrivals.specs.declared.Arrival.{Arrival}
 use Rattle.arrivals.specs.Arrival.{arrivalAt, brings}
 use Rattle.machine.specs.declared.Chart.{Chart}
 use Rattle.machine.specs.Tick.{Arrivals, serveAt, serve, byteOf, noted, notedTo, releases, lateRow, picked, bytes}
 use Rattle.machine.specs.Good.{GoodChart, GoodJobs, Dues, Coming}
-use Rattle.machine.proofs.Keep.{good-releases, all-good, picked-le}
+use Rattle.machine.proofs.Keep.{good-releases, all-good, picked-runs, picked-le}
 use Rattle.machine.proofs.Releasing.{late-le}
 use Rattle.stretch.specs.Stretch.{stepsFrom, worstFrom, Stretch}
 use Rattle.stretch.specs.Push.{Goes, Ready, Picks, pushRowAt, pushRow, pushAll}
@@ -69,15 +65,18 @@ pub record Rests (c : Chart) (xs : List Arrival) (t e : ℕ) (flat dues rows : L
   pub go-on : 0 < k → (q i : ℕ) → q < 17 → getD rows q 0 ≡ suc i → Goes (getD (c .rank) i 0) (getD (c .top) i 0) (suc k) (jobIn flat i) (jobIn flat i .place)
 
 module _ (c : Chart) (xs : List Arrival) (t e : ℕ) (js : List Job) (flat dues rows : List ℕ) (next : ℕ) (le : e ≤ 1000000) (r : Released c xs t js flat dues rows next) where
+  -- the jobs once the releases are in
   abbrev there : List Job
   there = releases (c .n) (c .bounds) (brings xs) t js
 
   few : c .n ≤ 64
   few = r .good .homed .few
 
+  -- the numbers hold them,
   job-there : (i : ℕ) → i < 64 → jobIn flat i ≡ jobAt there i
   job-there i h = sym (jobs-at flat i h) ∙ ap (λ ks. jobAt ks i) (r .jobs-are)
 
+  -- and the rows are those picked of them
   rows-there : rows ≡ picked c there
   unfolding picked
   rows-there = r .rows-are ∙ ap (λ ks. tab 17 (pick (c .homes) (c .rank) (c .top) (c .n) ks)) (r .jobs-are)
@@ -87,12 +86,13 @@ module _ (c : Chart) (xs : List Arrival) (t e : ℕ) (js : List Job) (flat dues 
   unfolding releases
   past i a b = job-there i b ∙ getD-rest 64 noJob (λ k. released (c .bounds) k t (jobAt js k) (brings xs k t)) (c .n) i noJob a b
 
-  row-runs : (q i : ℕ) → q < 17 → getD rows q 0 ≡ suc i → (i < c .n) × Runs (c .homes) (jobsIn flat) q i
-  row-runs q i h e =
-      let f = pick (c .homes) (c .rank) (c .top) (c .n) (jobsIn flat) in
-      pick-runs (c .homes) (c .rank) (c .top) (c .n) (jobsIn flat) q i (sym (getD-tab 17 f q 0 h) ∙ sym (ap (λ l. getD l q 0) (r .rows-are)) ∙ e)
+  -- a picked row runs a part on its processor
+  row-runs : (q i : ℕ) → getD rows q 0 ≡ suc i → (i < c .n) × Runs (c .homes) (jobsIn flat) q i
+  unfolding picked
+  row-runs q i e = picked-runs c (jobsIn flat) q i (sym (ap (λ l. getD l q 0) (r .rows-are)) ∙ e)
 
   module _ (k : ℕ) (s : Rests c xs t e flat dues rows next k) where
+    -- what a picked row runs lasts for k ticks,
     lasts : (i q j l : ℕ) → q < 17 → getD rows q 0 ≡ suc i → jobIn flat i .place ≡ Running j l → k ≤ l
     lasts i q j l h p d =
         dite (decLt 0 k)
@@ -101,6 +101,7 @@ module _ (c : Chart) (xs : List Arrival) (t e : ℕ) (js : List Job) (flat dues 
         omega (arith, g .0))
         (λ b. omega arith)
 
+    -- and a row whose part does can run k units
     good-there : (i : ℕ) → i < c .n → Lasts k (jobIn flat i .place) → Ready t k (jobIn flat i)
     good-there i h l =
         let g = good-releases (c .n) (c .bounds) (brings xs) t js (r .jobs-good) (omega (arith, s .short)) i h in
@@ -110,7 +111,7 @@ module _ (c : Chart) (xs : List Arrival) (t e : ℕ) (js : List Job) (flat dues 
     -- each picked row runs a part on its processor, with k ticks of it left
     pub picks : Picks rows (c .homes) t k (jobsIn flat)
     picks q i h p =
-        let (l, w) = row-runs q i h p in
+        let (l, w) = row-runs q i p in
         let d = jobs-at flat i (omega (arith, few)) in
         let place : jobIn flat i .place ≡ Running (w .part) (w .left) = sym (ap (λ (x : Job). x .place) d) ∙ w .place-is in (
           omega (arith, few),
@@ -123,6 +124,7 @@ module _ (c : Chart) (xs : List Arrival) (t e : ℕ) (js : List Job) (flat dues 
           },
         )
 
+    -- so it is ready
     pub ready : (q i : ℕ) → q < 17 → getD rows q 0 ≡ suc i → (i < 64) × Ready t k (jobIn flat i)
     ready q i h p =
         let (l, w) = picks q i h p in
@@ -137,13 +139,14 @@ module _ (c : Chart) (xs : List Arrival) (t e : ℕ) (js : List Job) (flat dues 
         let z : t + suc k ≡ suc t = omega arith in
         rw z (r .coming))
 
+    -- the ticks behind the first are calm
     calm : Calm c (brings xs) t k there (picked c there)
     calm =
         record {
           none-comes = λ i u l a b. none-between (c .n) xs next (suc t) (t + suc k) (r .coming) few after i u l (omega arith) (omega arith);
           still = λ b i l. rw (sym (ap (λ ks. dueOf (c .bounds) i (jobAt ks i)) (r .jobs-are)), sym (r .dues-are i l)) (s .still b i l);
           go-on = λ b q i h p.
-              let d = job-there i (omega (arith, few, row-runs q i h (rw rows-there p) .0)) in
+              let d = job-there i (omega (arith, few, row-runs q i (rw rows-there p) .0)) in
               rw (sym d) (s .go-on b q i h (rw rows-there p));
           marked = λ i l. good-releases (c .n) (c .bounds) (brings xs) t js (r .jobs-good) (omega (arith, s .short)) i l .3;
         }
@@ -152,7 +155,8 @@ module _ (c : Chart) (xs : List Arrival) (t e : ℕ) (js : List Job) (flat dues 
     abbrev after-at : ℕ → Job
     after-at i = serve rows (c .bounds) (c .homes) (t + k) i (pushRow rows (c .homes) t k i (jobIn flat i))
 
-    pub jobs-after : (flat′ : List ℕ) → jobsIn flat′ ≡ tab 64 after-at → jobsIn flat′ ≡ stepsFrom c (brings xs) t (suc k) js
+    -- so the jobs are those of the ticks one by one
+    jobs-after : (flat′ : List ℕ) → jobsIn flat′ ≡ tab 64 after-at → jobsIn flat′ ≡ stepsFrom c (brings xs) t (suc k) js
     unfolding serveAt pushRowAt
     jobs-after flat′ e =
         e
@@ -162,13 +166,13 @@ module _ (c : Chart) (xs : List Arrival) (t e : ℕ) (js : List Job) (flat dues 
         ∙ sym (stretch-jobs c (brings xs) t k js calm)
 
     -- a picked row is pushed in the one list as in the other, so its response is the same
-    noted-after : (q : ℕ) → q < 17 → (worst : List ℕ) → noted (c .bounds) (t + k) (tab 64 (λ i. push t k (jobIn flat i))) (getD rows q 0) worst ≡ noted (c .bounds) (t + k) (pushAll rows (c .homes) (c .n) t k there) (getD rows q 0) worst
+    noted-after : (q : ℕ) (worst : List ℕ) → noted (c .bounds) (t + k) (tab 64 (λ i. push t k (jobIn flat i))) (getD rows q 0) worst ≡ noted (c .bounds) (t + k) (pushAll rows (c .homes) (c .n) t k there) (getD rows q 0) worst
     unfolding noted pushAll
-    noted-after q h worst = go (getD rows q 0) refl
+    noted-after q worst = go (getD rows q 0) refl
       where
         at : (i : ℕ) → getD rows q 0 ≡ suc i → jobAt (tab 64 (λ i. push t k (jobIn flat i))) i ≡ jobAt (filled 64 noJob (c .n) (λ i. pushRow rows (c .homes) t k i (jobAt there i))) i
         at i p =
-            let (l, w) = row-runs q i h p in
+            let (l, w) = row-runs q i p in
             let b : i < 64 = omega (arith, few) in
             let place : jobIn flat i .place ≡ Running (w .part) (w .left) = sym (ap (λ (x : Job). x .place) (jobs-at flat i b)) ∙ w .place-is in
             getD-tab 64 (λ i. push t k (jobIn flat i)) i noJob b
@@ -180,14 +184,16 @@ module _ (c : Chart) (xs : List Arrival) (t e : ℕ) (js : List Job) (flat dues 
         go zero p = refl
         go (suc i) p = rw (at i p)
 
+    -- and so are all worst responses
     worst-after : (worst : List ℕ) → notedTo (c .bounds) (t + k) (tab 64 (λ i. push t k (jobIn flat i))) rows (c .m) worst ≡ worstFrom c (brings xs) t (suc k) js worst
     unfolding notedTo
-    worst-after worst = go (c .m) (r .good .processors) ∙ rw rows-there (sym (stretch-worst c (brings xs) t k js calm worst))
+    worst-after worst = go (c .m) ∙ rw rows-there (sym (stretch-worst c (brings xs) t k js calm worst))
       where
-        go : (m : ℕ) → m ≤ 16 → notedTo (c .bounds) (t + k) (tab 64 (λ i. push t k (jobIn flat i))) rows m worst ≡ notedTo (c .bounds) (t + k) (pushAll rows (c .homes) (c .n) t k there) rows m worst
-        go zero h = refl
-        go (suc m) h = rw (go m (omega arith)) (noted-after (suc m) (omega arith) _)
+        go : (m : ℕ) → notedTo (c .bounds) (t + k) (tab 64 (λ i. push t k (jobIn flat i))) rows m worst ≡ notedTo (c .bounds) (t + k) (pushAll rows (c .homes) (c .n) t k there) rows m worst
+        go zero = refl
+        go (suc m) = rw (go m) (noted-after (suc m) _)
 
+    -- the lane has the bytes of the first tick
     bytes-after : (lane : List ℕ) (size : ℕ) → lane ≡ tab size (λ q. byteOf (jobsIn flat) (getD rows (suc q) 0)) → length lane ≡ c .m → lane ≡ bytes c there
     unfolding bytes
     bytes-after lane size e l =

@@ -24,13 +24,6 @@ pub struct Stretched {
     pub ticks: u32,
 }
 
-// The smaller of two numbers.
-fn smaller(x: u32, y: u32) -> u32
-    ensures { λ r. ⌜ (r ≤ x) × (r ≤ y) ⌝ }
-{
-    if x < y { x } else { y }
-}
-
 // How far it is from one number up to another, at most `most`.
 fn gap(from: u32, to: u32, most: u32) -> u32
     ensures { λ r. ⌜ (r ≤ most) × (0 < r → from + r ≤ to) ⌝ }
@@ -38,8 +31,7 @@ fn gap(from: u32, to: u32, most: u32) -> u32
     if to <= from {
         return 0;
     }
-    let far = to - from;
-    if far < most { far } else { most }
+    lists::smaller(to - from, most)
 }
 
 // How many ticks from t on bring no arrival, at most `most`.
@@ -65,11 +57,11 @@ fn goes_on(x: Job, rank: u32, top: u32, most: u32) -> u32
     if part == 1 {
         if x.begun == 0 {
             if rank < top {
-                return smaller(1, most);
+                return lists::smaller(1, most);
             }
         }
     }
-    smaller(left, most)
+    lists::smaller(left, most)
 }
 
 // For how many ticks the picked rows run on as they do, at most `most`.

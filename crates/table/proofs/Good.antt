@@ -8,7 +8,7 @@ use borrow.Author.Tests.{ltb-true, ltb-false, lt-ltb}
 use lib.ListN.{getD}
 use lib.Dec.{ltb, eqb}
 use Rattle.lists.proofs.Tab.{getD-filled}
-use Rattle.lists.proofs.First.{first-no, first-yes}
+use Rattle.lists.proofs.First.{first-yes, good-before}
 use Rattle.table.specs.Row.{taskOf, spareOf, judged, rowOf, numberOf}
 use Rattle.table.specs.Table.{taskCount, processorCount, protocolBit, headerNumber, rowBytes, rowNumber, firstBad, column, ranked, tableOf, refusal, accepted, rowsReading, readingOf}
 use Rattle.table.specs.Good.{GoodHeader, GoodTask, taskAt, GoodTable}
@@ -32,6 +32,7 @@ row-good w h = go (rowOf w) refl h
     go BadSum e h = absurd (omega arith)
 
 module _ (bs : List ℕ) (n : ℕ) where
+  -- row k's place in a column
   at-column : (f : Task → ℕ) (k : ℕ) → k < n → getD (column bs n f) k 0 ≡ f (taskOf (rowBytes bs k))
   unfolding column
   at-column f k l = getD-filled 64 0 (λ j. f (taskOf (rowBytes bs j))) n k 0 l
@@ -45,10 +46,9 @@ module _ (bs : List ℕ) (n : ℕ) where
   -- behind no bad row each row is good
   rows-good : n ≤ firstBad bs n → (k : ℕ) → k < n → GoodTask (taskOf (rowBytes bs k))
   unfolding firstBad rowNumber
-  rows-good h k l =
-      let e : ltb 0 (rowNumber bs k) ≡ false = first-no n (λ j. ltb 0 (rowNumber bs j)) k (omega arith) in
-      row-good (rowBytes bs k) (omega (arith, ltb-false 0 (rowNumber bs k) e))
+  rows-good h k l = row-good (rowBytes bs k) (good-before n (rowNumber bs) k (omega arith))
 
+-- behind a good header: what is read without refusal of the rows is a good table
 rows-table : (bs : List ℕ) (m : ℕ) (npp : Bool) → GoodHeader bs → (2 ≤ m) × (m ≤ 16) → (b : Bool) → ltb (firstBad bs (taskCount bs)) (taskCount bs) ≡ b → (r : Reading) →
     r ≡ cond b (refusal (rowNumber bs (firstBad bs (taskCount bs))) (firstBad bs (taskCount bs) + 1)) (accepted (tableOf bs (taskCount bs) m npp)) →
     r .number ≡ 0 → GoodTable (r .table)
@@ -82,6 +82,7 @@ table-good bs r q z = go (ltb 0 (headerNumber bs)) refl q
 pub names-resource : (t : Table) → GoodTable t → (i : ℕ) → i < t .n → 1 ≤ getD (t .a) i 0 → 1 ≤ getD (t .resource) i 0
 names-resource t g i l h = ltb-true 0 (getD (t .resource) i 0) (sym (g .tasks i l .agree) ∙ lt-ltb 0 (getD (t .a) i 0) h)
 
+-- no refusal of a row has a number above 9
 row-number-le : (r : RowRead) → numberOf r ≤ 9
 unfolding numberOf
 row-number-le (Good t) = omega arith

@@ -8,40 +8,36 @@ use borrow.Author.Tests.{lt-ltb, le-ltb, ltb-false, eqb-true, not-false}
 use lib.ListN.{length, set}
 use lib.Dec.{ltb, eqb}
 use Rattle.lists.specs.Tab.{blank}
+use Rattle.lists.proofs.Tests.{clash, neither}
 use Rattle.lists.proofs.Tab.{filled-none, filled-more}
-use Rattle.lists.proofs.First.{first-is, first-none}
+use Rattle.lists.proofs.First.{first-bad, none-bad}
 use Rattle.table.specs.Row.{outside, taskOf, spareOf, judged, rowOf, numberOf}
 use Rattle.table.specs.Table.{taskCount, processorCount, spareBits, headerNumber, rowBytes, rowNumber, firstBad, column, tableOf, refusal, accepted, rowsReading}
 use Rattle.table.specs.Good.{GoodHeader, GoodTask}
 use Rattle.table.specs.declared.Task.{Task}
 use Rattle.table.specs.declared.RowRead.the-variants.{Good, BadPeriod, BadResource, Disagree, BadSum}
 
-clash : {X : Type 0} → _≡_ {A = ℕ} 0 1 → X
-clash z = absurd (omega arith)
-
 -- a number that is not outside lo to hi is in it
 pub inside : (x lo hi : ℕ) → outside x lo hi ≡ false → (lo ≤ x) × (x ≤ hi)
 unfolding outside
-inside x lo hi h = go (ltb x lo) (ltb hi x) refl refl h
-  where
-    go : (a b : Bool) → ltb x lo ≡ a → ltb hi x ≡ b → (a || b) ≡ false → (lo ≤ x) × (x ≤ hi)
-    go true b e f h = clash cc
-    go false b e f h = (ltb-false x lo e, ltb-false hi x (f ∙ h))
+inside x lo hi h =
+    let (a, b) = neither (ltb x lo) (ltb hi x) h in
+    (ltb-false x lo a, ltb-false hi x b)
 
 -- a header that none of 1 to 5 refuses is good
 pub header-good : (bs : List ℕ) → headerNumber bs ≡ 0 → GoodHeader bs
 unfolding headerNumber
 header-good bs h =
     go (ltb (length bs) 2) (outside (taskCount bs) 1 64) (outside (processorCount bs) 2 16) (ltb 0 (spareBits bs)) (not (eqb (length bs) (2 + 11 * taskCount bs)))
-    refl refl refl refl refl h
+    refl refl refl h
   where
-    go : (b1 b2 b3 b4 b5 : Bool) → ltb (length bs) 2 ≡ b1 → outside (taskCount bs) 1 64 ≡ b2 → outside (processorCount bs) 2 16 ≡ b3 → ltb 0 (spareBits bs) ≡ b4 → not (eqb (length bs) (2 + 11 * taskCount bs)) ≡ b5 → _≡_ {A = ℕ} (cond b1 1 (cond b2 2 (cond b3 3 (cond b4 4 (cond b5 5 0))))) 0 → GoodHeader bs
-    go true b2 b3 b4 b5 e1 e2 e3 e4 e5 h = absurd (omega arith)
-    go false true b3 b4 b5 e1 e2 e3 e4 e5 h = absurd (omega arith)
-    go false false true b4 b5 e1 e2 e3 e4 e5 h = absurd (omega arith)
-    go false false false true b5 e1 e2 e3 e4 e5 h = absurd (omega arith)
-    go false false false false true e1 e2 e3 e4 e5 h = absurd (omega arith)
-    go false false false false false e1 e2 e3 e4 e5 h =
+    go : (b1 b2 b3 b4 b5 : Bool) → outside (taskCount bs) 1 64 ≡ b2 → outside (processorCount bs) 2 16 ≡ b3 → not (eqb (length bs) (2 + 11 * taskCount bs)) ≡ b5 → _≡_ {A = ℕ} (cond b1 1 (cond b2 2 (cond b3 3 (cond b4 4 (cond b5 5 0))))) 0 → GoodHeader bs
+    go true b2 b3 b4 b5 e2 e3 e5 h = absurd (omega arith)
+    go false true b3 b4 b5 e2 e3 e5 h = absurd (omega arith)
+    go false false true b4 b5 e2 e3 e5 h = absurd (omega arith)
+    go false false false true b5 e2 e3 e5 h = absurd (omega arith)
+    go false false false false true e2 e3 e5 h = absurd (omega arith)
+    go false false false false false e2 e3 e5 h =
         record {
           rows = inside (taskCount bs) 1 64 e2;
           processors = inside (processorCount bs) 2 16 e3;
@@ -61,10 +57,7 @@ header-le bs = go (ltb (length bs) 2) (outside (taskCount bs) 1 64) (outside (pr
     go false false false false true = omega arith
     go false false false false false = omega arith
 
-or-left : (a b : Bool) → (a || b) ≡ false → a ≡ false
-or-left true b e = e
-or-left false b e = refl
-
+-- tests that do not differ
 same : (a b : Bool) → xor a b ≡ false → a ≡ b
 unfolding xor
 same true true e = refl
@@ -88,7 +81,7 @@ judged-good t spare u h =
       cc,
       record {
         period = inside (t .period) 1 1000000 e1;
-        resource = ltb-false 16 (t .resource) (or-left (ltb 16 (t .resource)) (ltb 0 spare) e2);
+        resource = ltb-false 16 (t .resource) (neither (ltb 16 (t .resource)) (ltb 0 spare) e2 .0);
         agree = same (ltb 0 (t .a)) (ltb 0 (t .resource)) e3;
         sum = inside (t .c1 + t .a + t .c2) 1 (t .period) e4;
       },
@@ -99,28 +92,27 @@ pub good-task : (w : List ℕ) (t : Task) → rowOf w ≡ Good t → t ≡ taskO
 unfolding rowOf
 good-task w t h = judged-good (taskOf w) (spareOf w) t h .0
 
+-- and has no refusal
 pub good-number : (w : List ℕ) (t : Task) → rowOf w ≡ Good t → numberOf (rowOf w) ≡ 0
 unfolding numberOf
 good-number w t h = rw h
 
 module _ (bs : List ℕ) where
-  passes : (k : ℕ) → rowNumber bs k ≡ 0 → ltb 0 (rowNumber bs k) ≡ false
-  passes k h = le-ltb 0 (rowNumber bs k) (omega arith)
-
   -- a bad row behind good ones is the refusal
   pub rows-refused : (n m : ℕ) (npp : Bool) (i : ℕ) → i < n → ((k : ℕ) → k < i → rowNumber bs k ≡ 0) → 0 < rowNumber bs i → rowsReading bs n m npp ≡ refusal (rowNumber bs i) (i + 1)
   unfolding rowsReading firstBad
   rows-refused n m npp i l good bad =
-      let e : firstBad bs n ≡ i = first-is n (λ k. ltb 0 (rowNumber bs k)) i l (λ j h. passes j (good j h)) (lt-ltb 0 (rowNumber bs i) bad) in
+      let e : firstBad bs n ≡ i = first-bad n (rowNumber bs) i l good bad in
       rw (e, lt-ltb i n l)
 
   -- good rows are the table
   pub rows-accepted : (n m : ℕ) (npp : Bool) → ((k : ℕ) → k < n → rowNumber bs k ≡ 0) → rowsReading bs n m npp ≡ accepted (tableOf bs n m npp)
   unfolding rowsReading firstBad
   rows-accepted n m npp good =
-      let e : firstBad bs n ≡ n = first-none n (λ k. ltb 0 (rowNumber bs k)) (λ j h. passes j (good j h)) in
+      let e : firstBad bs n ≡ n = none-bad n (rowNumber bs) good in
       rw (e, le-ltb n n (omega arith))
 
+  -- a column of no row is blank
   pub column-none : (f : Task → ℕ) → column bs 0 f ≡ blank 64 0
   unfolding column
   column-none f = filled-none 64 0 (λ k. f (taskOf (rowBytes bs k)))

@@ -34,6 +34,7 @@ taskAt t k =
       resource = getD (t .resource) k 0;
     }
 
+-- a table of a good header and good rows, with the ranks and ceilings that its columns give
 pub record GoodTable (t : Table) : Type 0 where
   pub rows : (1 ≤ t .n) × (t .n ≤ 64)
   pub processors : (2 ≤ t .m) × (t .m ≤ 16)

@@ -19,6 +19,7 @@ taskOf w =
       resource = bitsValue w 80 5;
     }
 
+-- its three spare bits
 abbrev pub spareOf : List ℕ → ℕ
 spareOf w = bitsValue w 85 3
 
@@ -35,6 +36,7 @@ judged t spare =
     (cond (outside (t .c1 + t .a + t .c2) 1 (t .period)) BadSum
     (Good t))))
 
+-- the row in its eleven bytes, or the first case that it is in
 unfoldable pub rowOf : List ℕ → RowRead
 rowOf w = judged (taskOf w) (spareOf w)
 

@@ -78,6 +78,7 @@ tableOf bs n m npp =
     (column bs n (λ t. t .c2))
     (column bs n (λ t. t .resource))
 
+-- a table of zeros
 abbrev pub noTable : Table
 noTable =
     record {
@@ -97,6 +98,7 @@ noTable =
 abbrev pub refusal : ℕ → ℕ → Reading
 refusal number names = record { number = number; names = names; table = noTable }
 
+-- a table that is not refused
 abbrev pub accepted : Table → Reading
 accepted t = record { number = 0; names = 0; table = t }
 

@@ -6,16 +6,16 @@ ghost use Rattle.table.specs.Row.{outside as Row·outside, judged, rowOf
 ghost use Rattle.table.specs.Table.{headerNumber, rowBytes, ranked, rowsReading, refusal, accepted, readingOf};
 
 // A row's fields: period, length of stage one, of the section and of stage two, and the resource (0 is none).
-pub struct Task {
-    pub period: u32,
-    pub c1: u32,
-    pub a: u32,
-    pub c2: u32,
-    pub resource: u32,
+struct Task {
+    period: u32,
+    c1: u32,
+    a: u32,
+    c2: u32,
+    resource: u32,
 }
 
 // A row, or why it is refused.
-pub enum RowRead {
+enum RowRead {
     Good(Task),
     BadPeriod,
     BadResource,

@@ -1,6 +1,6 @@
 -- `chain::push` meets its contract.
 use Prim.Native.Nat.{ℕ, zero, suc, _+_, _-_}
-use mathlib.Core.Path.{_≡_, refl, sym, _∙_, ap}
+use mathlib.Core.Path.{_≡_, refl, sym, ap}
 use borrow.Author.Needs.{needs}
 use Rattle.chain.specs.Job.{Place, Idle, Waiting, Running, Job}
 use Rattle.chain.specs.Unit.{mark, pushed, pushAt, push}

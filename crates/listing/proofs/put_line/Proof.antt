@@ -1,5 +1,4 @@
 -- `listing::put_line` meets its contract. Word, numbers and line end are written one behind the other.
-use Prim.Native.Nat.{_+_}
 use mathlib.Core.List.{[], _∷_, _++_, append-assoc}
 use native.Mathlib.Omega.{arith}
 use borrow.Author.Needs.{needs}

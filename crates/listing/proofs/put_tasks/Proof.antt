@@ -4,7 +4,7 @@ use mathlib.Core.Path.{_≡_}
 use native.Mathlib.Omega.{arith}
 use borrow.Author.Needs.{needs}
 use Rattle.lists.specs.Tab.{joined}
-use Rattle.lists.proofs.Tab.{joined-more}
+use Rattle.lists.proofs.Joined.{joined-more}
 use Rattle.listing.specs.Text.{Wrote}
 use Rattle.listing.specs.Listing.{taskLine}
 use Rattle.listing.proofs.Text.{then, wrote-nothing, wrote-length}

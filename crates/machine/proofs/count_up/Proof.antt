@@ -1,3 +1,4 @@
+-- `machine::count_up` meets its contract: the sums of the first i jobs are counted.
 use Prim.Native.Nat.{_*_, _-_, _≤_}
 use mathlib.Core.Path.{_≡_, sym, _∙_}
 use native.Mathlib.Omega.{arith}

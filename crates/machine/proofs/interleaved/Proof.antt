@@ -1,3 +1,4 @@
+-- `machine::interleaved` meets its contract: the numbers of the first i rows are written.
 use Prim.Native.Nat.{_-_, _≤_}
 use mathlib.Core.Path.{_∙_, sym, _≡_}
 use native.Mathlib.Omega.{arith}

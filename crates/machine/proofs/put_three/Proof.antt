@@ -1,3 +1,4 @@
+-- `machine::put_three` meets its contract: three stores, one behind the other, are one run.
 use Prim.Native.Nat.{suc, _+_, _*_}
 use mathlib.Core.Path.{_≡_}
 use native.Mathlib.Omega.{arith}

@@ -1,3 +1,4 @@
+-- `machine::release_each` meets its contract: the first i rows have their releases, none of them too early.
 use Prim.Native.Nat.{_-_, _≤_}
 use mathlib.Core.Path.{sym, _∙_, _≡_}
 use mathlib.Core.Bool.{Bool, true, false, _&&_}

@@ -7,6 +7,7 @@ use mathlib.Core.Option.{none, some}
 use native.Mathlib.Omega.{arith}
 use borrow.Author.Needs.{needs}
 use lib.ListN.{length, set}
+use Rattle.lists.proofs.Tests.{clash}
 use Rattle.chain.specs.Release.{released, dueOf}
 use Rattle.chain.specs.Good.{GoodJob}
 use Rattle.chain.proofs.Before.{lens-released}
@@ -22,8 +23,7 @@ three true lens ls h e =
     let f : lens ≡ ls = cc in
     rw f at h
 three false lens ls h e =
-    let z : _≡_ {A = ℕ} 0 1 = cc in
-    absurd (omega arith)
+    clash cc
 
 job-at-requires : tie.Need-job-at-requires
 job-at-requires c κs = search needs

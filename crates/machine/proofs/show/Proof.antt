@@ -1,3 +1,4 @@
+-- `machine::show` meets its contract: the bytes of the first k processors are written.
 use Prim.Native.Nat.{ℕ, suc, _+_, _*_, _-_, _≤_}
 use mathlib.Core.Path.{refl, sym, _∙_, ap, _≡_}
 use mathlib.Core.Logic.{⊎-elim}

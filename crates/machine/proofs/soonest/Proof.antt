@@ -1,10 +1,9 @@
 -- `machine::soonest` meets its contract. The loop's invariant: the tick is the first of the next releases of the rows passed.
-use Prim.Native.Nat.{ℕ, _-_, _≤_, _<_}
+use Prim.Native.Nat.{ℕ, _-_, _≤_}
 use mathlib.Core.Path.{_≡_, refl, sym, _∙_, ap}
 use mathlib.Core.Logic.{⊎-elim}
 use native.Mathlib.Omega.{arith}
 use borrow.Author.Needs.{needs}
-use lib.ListN.{getD}
 use Rattle.machine.specs.Good.{soonestOf}
 use Rattle.machine.proofs.Dues.{soonest-first, soonest-kept}
 use Rattle.machine.proofs.soonest.Statement.{statement}

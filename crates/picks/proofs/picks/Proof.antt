@@ -1,12 +1,12 @@
 -- `picks::picks` meets its contract. The loop's invariant: each processor passed has its choice.
-use Prim.Native.Nat.{ℕ, zero, suc, _-_, _≤_, _<_}
-use mathlib.Core.Path.{_≡_, refl, sym, _∙_}
+use Prim.Native.Nat.{ℕ, _-_, _≤_}
+use mathlib.Core.Path.{_≡_, sym, _∙_}
 use mathlib.Core.List.{List}
 use native.Mathlib.Omega.{arith}
 use borrow.Author.Needs.{needs}
 use lib.ListN.{getD}
 use lib.Dec.{ltb}
-use Rattle.lists.specs.Tab.{tab, filled}
+use Rattle.lists.specs.Tab.{filled}
 use Rattle.lists.proofs.Tab.{filled-none, filled-next, filled-all, tab-same}
 use Rattle.jobs.specs.Numbers.{jobsIn}
 use Rattle.picks.specs.Pick.{chosen}

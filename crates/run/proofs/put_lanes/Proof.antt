@@ -1,14 +1,14 @@
 -- `run::put_lanes` meets its contract: the lane is written k times, one behind the other.
 use Prim.Native.Nat.{ℕ, _+_, _-_, _*_, _≤_}
-use mathlib.Core.Path.{_≡_, refl, sym, ap, _∙_}
-use mathlib.Core.List.{List}
+use mathlib.Core.Path.{_≡_, refl}
 use native.Mathlib.Omega.{arith}
 use borrow.Author.Needs.{needs}
 use lib.ListN.{length}
-use lib.Seq.{sets, length-sets}
+use lib.Seq.{sets}
 use Rattle.lists.specs.Tab.{joined}
-use Rattle.lists.proofs.Tab.{joined-more, length-joined}
-use Rattle.run.proofs.Front.{written-on, more-ticks}
+use Rattle.lists.proofs.Sets.{stored-length}
+use Rattle.lists.proofs.Joined.{joined-next}
+use Rattle.run.proofs.Front.{more-ticks}
 use Rattle.run.proofs.put_lanes.Statement.{statement}
 use Rattle.run.proofs.put_lanes.Tie as tie
 
@@ -26,21 +26,21 @@ loop-holds c = (omega arith, refl)
 room : (m at k ticks size : ℕ) → k + 1 ≤ ticks → at + m * ticks ≤ size → at + m * k + m ≤ size
 room m at k ticks size h l = omega (arith, more-ticks m k 1 ticks h)
 
-mul-put-lane : tie.Need-mul-put-lane Inv-loop μ-loop
-mul-put-lane c =
+mul-store : tie.Need-mul-store Inv-loop μ-loop
+mul-store c =
     let s = c .before .before .before .before .before in
     omega (arith, room (length (s .args .lane .now)) (s .args .at) (c .before .before .loop .k) (s .args .ticks) (length (s .args .trace .now)) (omega arith) (s .pre), s .good .1 .0)
 
-add-put-lane : tie.Need-add-put-lane Inv-loop μ-loop
-add-put-lane c =
+add-store : tie.Need-add-store Inv-loop μ-loop
+add-store c =
     let s = c .before .before .before .before .before in
     omega (arith, room (length (s .args .lane .now)) (s .args .at) (c .before .before .loop .k) (s .args .ticks) (length (s .args .trace .now)) (omega arith) (s .pre), s .good .1 .0)
 
-put-lane-requires : tie.Need-put-lane-requires Inv-loop μ-loop
-put-lane-requires c κs =
+store-requires : tie.Need-store-requires Inv-loop μ-loop
+store-requires c κs =
     let s = c .before .before .before .before .before in
     let l = c .before .before .loop in
-    omega (arith, room (length (s .args .lane .now)) (s .args .at) (l .k) (s .args .ticks) (length (s .args .trace .now)) (omega arith) (s .pre), ap length (l .inv .1) ∙ length-sets (s .args .trace .now) (s .args .at) (joined (l .k) (λ i. s .args .lane .now)))
+    omega (arith, room (length (s .args .lane .now)) (s .args .at) (l .k) (s .args .ticks) (length (s .args .trace .now)) (omega arith) (s .pre), stored-length (s .args .trace .now) (s .args .at) (joined (l .k) (λ i. s .args .lane .now)) (l .inv .1))
 
 add-k : tie.Need-add-k Inv-loop μ-loop
 add-k c = search needs
@@ -52,15 +52,13 @@ loop-again : tie.Need-loop-again Inv-loop μ-loop
 loop-again c =
     let a = c .before .before .before .before .before .before .before .before .args in
     let l = c .before .before .before .before .before .loop in
-    let same : ℕ → List ℕ = λ i. a .lane .now in
-    let e = c .before .before .put-lane .ensures in
-    (omega arith, e ∙ ap (λ (u : List ℕ). sets u (a .at + length (a .lane .now) * l .k) (a .lane .now)) (l .inv .1) ∙ written-on (a .trace .now) (joined (l .k) same) (a .lane .now) (a .at) (length (a .lane .now) * l .k) (length-joined (l .k) (length (a .lane .now)) same (λ i. refl)) ∙ ap (sets (a .trace .now) (a .at)) (sym (joined-more (l .k) same)))
+    (omega arith, joined-next (length (a .lane .now)) (λ i. a .lane .now) (λ i. refl) (a .trace .now) (a .at) (l .k) (l .inv .1) (c .before .before .store .ensures))
 
 same-length : tie.Need-same-length Inv-loop μ-loop
 same-length c =
     let a = c .before .before .before .before .args in
     let l = c .before .loop in
-    ap length (l .inv .1) ∙ length-sets (a .trace .now) (a .at) (joined (l .k) (λ i. a .lane .now))
+    stored-length (a .trace .now) (a .at) (joined (l .k) (λ i. a .lane .now)) (l .inv .1)
 
 returns : tie.Need-returns Inv-loop μ-loop
 returns c =
@@ -74,9 +72,9 @@ put-lanes-spec =
     Inv-loop
     μ-loop
     loop-holds
-    mul-put-lane
-    add-put-lane
-    put-lane-requires
+    mul-store
+    add-store
+    store-requires
     add-k
     loop-less
     loop-again

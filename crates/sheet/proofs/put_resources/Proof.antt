@@ -5,7 +5,8 @@ use Prim.Native.Nat.{ℕ}
 use lib.Seq.{sets}
 use Rattle.sheet.specs.Fields.{bytesOf}
 use Rattle.sheet.specs.Sheet.{resourceBytes}
-use Rattle.sheet.proofs.Bytes.{length-bytes, then}
+use Rattle.lists.proofs.Sets.{sets-then}
+use Rattle.sheet.proofs.Bytes.{length-bytes}
 use Rattle.sheet.proofs.Words.{resource-words}
 use borrow.Author.Needs.{needs}
 use Rattle.sheet.proofs.put_resources.Statement.{statement}
@@ -34,7 +35,7 @@ returns c =
     let x = w1 .before .eight .result in
     let y = w2 .before .eight2 .result in
     let e : bytesOf 5 x ++ bytesOf 5 y ≡ resourceBytes (s .args .serves .now) = rw (w1 .before .eight .ensures, w2 .before .eight2 .ensures) (sym (resource-words (s .args .serves .now) (s .pre .1))) in
-    then (s .args .part .now) 2 5 (bytesOf 5 x) (bytesOf 5 y) (length-bytes 5 x) (w1 .put-word .ensures) (w2 .put-word2 .ensures)
+    sets-then (s .args .part .now) 2 5 (bytesOf 5 x) (bytesOf 5 y) (length-bytes 5 x) (w1 .put-word .ensures) (w2 .put-word2 .ensures)
     ∙ ap (λ (u : List ℕ). sets (s .args .part .now) 2 u) e
 
 pub put-resources-spec : {M : Type 1} → statement M

@@ -5,7 +5,8 @@ use Prim.Native.Nat.{ℕ, _+_, _*_, _/_, _%_}
 use native.Mathlib.Omega.{arith}
 use lib.Seq.{sets}
 use Rattle.sheet.specs.Fields.{bytesOf}
-use Rattle.sheet.proofs.Bytes.{length-bytes, then}
+use Rattle.lists.proofs.Sets.{sets-then}
+use Rattle.sheet.proofs.Bytes.{length-bytes}
 use Rattle.sheet.proofs.Words.{task-words}
 use borrow.Author.Needs.{needs}
 use Rattle.sheet.proofs.put_task.Statement.{statement}
@@ -55,7 +56,7 @@ returns c =
     let a = c .before .before .before .before .before .before .before .before .before .args in
     let x = (a .processor * 1048576 + a .d1) * 32768 + a .section / 32 in
     let y = (a .section % 32 * 1048576 + a .d2) * 128 in
-    then (a .part .now) (a .at) 5 (bytesOf 5 x) (bytesOf 4 y) (length-bytes 5 x) (c .before .before .before .before .before .before .put-word .ensures) (c .before .before .put-word2 .ensures)
+    sets-then (a .part .now) (a .at) 5 (bytesOf 5 x) (bytesOf 4 y) (length-bytes 5 x) (c .before .before .before .before .before .before .put-word .ensures) (c .before .before .put-word2 .ensures)
     ∙ ap (λ (u : List ℕ). sets (a .part .now) (a .at) u) (sym (task-words (a .processor) (a .d1) (a .section) (a .d2) (omega arith)))
 
 pub put-task-spec : {M : Type 1} → statement M

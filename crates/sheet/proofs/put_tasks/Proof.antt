@@ -1,14 +1,14 @@
 -- `sheet::put_tasks` meets its contract. The loop's invariant: the bytes of the first k tasks are written.
-use Prim.Native.Nat.{_-_, _*_, _≤_}
+use Prim.Native.Nat.{_-_, _≤_}
 use mathlib.Core.Path.{_≡_}
 use native.Mathlib.Omega.{arith}
 use borrow.Author.Needs.{needs}
 use lib.Seq.{sets}
 use Rattle.lists.specs.Tab.{joined}
-use Rattle.lists.proofs.Tab.{joined-more}
+use Rattle.lists.proofs.Sets.{stored-length}
+use Rattle.lists.proofs.Joined.{joined-next}
 use Rattle.sheet.specs.Sheet.{taskOf}
-use Rattle.sheet.proofs.Bytes.{then, stored-length}
-use Rattle.sheet.proofs.Words.{length-tasks}
+use Rattle.sheet.proofs.Words.{length-task}
 use Rattle.sheet.proofs.put_tasks.Statement.{statement}
 use Rattle.sheet.proofs.put_tasks.Tie as tie
 
@@ -73,7 +73,7 @@ loop-again c =
     let l = c .before .before .before .before .before .before .before .before .before .loop in
     let a = c .before .before .before .before .before .before .before .before .before .before .before .args in
     let f = taskOf (a .processor .now) (a .d1 .now) (a .section .now) (a .d2 .now) in
-    (omega arith, rw (joined-more (l .k) f) (then (a .part .now) 12 (9 * l .k) (joined (l .k) f) (f (l .k)) (length-tasks (a .processor .now) (a .d1 .now) (a .section .now) (a .d2 .now) (l .k)) (l .inv .1) (c .before .before .put-task .ensures)))
+    (omega arith, joined-next 9 f (length-task (a .processor .now) (a .d1 .now) (a .section .now) (a .d2 .now)) (a .part .now) 12 (l .k) (l .inv .1) (c .before .before .put-task .ensures))
 
 same-length : tie.Need-same-length Inv-loop μ-loop
 same-length c =

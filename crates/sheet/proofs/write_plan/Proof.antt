@@ -2,7 +2,7 @@
 use mathlib.Core.List.{_++_}
 use Rattle.lists.specs.Tab.{joined}
 use Rattle.sheet.specs.Sheet.{headerBytes, resourceBytes, taskOf, planBytes}
-use Rattle.sheet.proofs.Bytes.{then}
+use Rattle.lists.proofs.Sets.{sets-then}
 use Rattle.sheet.proofs.Words.{length-header, length-resources}
 use borrow.Author.Needs.{needs}
 use Rattle.sheet.proofs.write_plan.Statement.{statement}
@@ -30,8 +30,8 @@ returns c =
     let e1 = c .before .before .before .before .before .before .before .before .before .before .put-header .ensures in
     let e2 = c .before .before .before .before .before .before .put-resources .ensures in
     let e3 = c .before .before .put-tasks .ensures in
-    then (a .part .now) 0 2 header (resources ++ tasks) (length-header (a .n) (a .m) (a .s)) e1
-    (then (c .before .before .before .before .before .before .before .before .before .before .put-header .last .0) 2 10 resources tasks (length-resources (a .serves .now)) e2 e3)
+    sets-then (a .part .now) 0 2 header (resources ++ tasks) (length-header (a .n) (a .m) (a .s)) e1
+    (sets-then (c .before .before .before .before .before .before .before .before .before .before .put-header .last .0) 2 10 resources tasks (length-resources (a .serves .now)) e2 e3)
 
 pub write-plan-spec : {M : Type 1} → statement M
 write-plan-spec =

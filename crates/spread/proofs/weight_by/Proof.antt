@@ -30,7 +30,7 @@ div-result : tie.Need-div-result
 div-result c = search needs
 
 cast-result : tie.Need-cast-result
-cast-result c = quotient-fits _ _ (omega arith) (omega arith)
+cast-result c = quotient-fits _ _ (omega arith)
 
 returns-2 : tie.Need-returns-2
 unfolding ceil

@@ -26,7 +26,7 @@ smaller-requires : tie.Need-smaller-requires
 smaller-requires c κs = search needs
 
 returns-2 : tie.Need-returns-2
-returns-2 c = (c .smaller .ensures .1, λ h. absurd (omega (arith, c .smaller .ensures .0)))
+returns-2 c = (omega (arith, c .smaller .ensures), λ h. absurd (omega (arith, c .smaller .ensures)))
 
 smaller-requires-2 : tie.Need-smaller-requires-2
 smaller-requires-2 c κs = search needs
@@ -36,10 +36,10 @@ returns-3 c =
     let a = c .before .before .before .before .before .args in
     let p = c .before .before .before .p .given in
     let r = c .smaller2 in (
-      r .ensures .1,
+      omega (arith, r .ensures),
       λ h.
           goes-at (a .rank) (a .top) (r .result) (a .x) (Running (p .0 .0) (p .0 .1 .0)) (a .x .place) (sym (p .1))
-          (omega (arith, r .ensures .0), λ e z. ⊎-elim (λ w. omega (arith, w .3 .left)) (⊎-elim (λ w. absurd (w .2 .left z)) (λ w. absurd (w .left e))) (c .before .if1 .came)),
+          (omega (arith, r .ensures), λ e z. ⊎-elim (λ w. omega (arith, w .3 .left)) (⊎-elim (λ w. absurd (w .2 .left z)) (λ w. absurd (w .left e))) (c .before .if1 .came)),
     )
 
 pub goes-on-spec : {M : Type 1} → statement M

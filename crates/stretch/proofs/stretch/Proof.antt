@@ -1,15 +1,11 @@
 -- `stretch::stretch` meets its contract.
-use Prim.Native.Nat.{ℕ, suc, _+_, _≤_, _<_}
-use mathlib.Core.Path.{_≡_, sym, _∙_, ap}
-use mathlib.Core.List.{List}
+use mathlib.Core.Path.{sym, _∙_}
 use native.Mathlib.Omega.{arith}
 use native.Mathlib.Numerals.{add-one}
 use borrow.Author.Needs.{needs}
-use lib.ListN.{getD, length}
 use Rattle.arrivals.specs.Arrival.{arrivalsOf, brings}
 use Rattle.arrivals.proofs.Flat.{length-arrivals}
-use Rattle.jobs.specs.Numbers.{jobIn, jobsIn}
-use Rattle.jobs.proofs.Laws.{jobs-at}
+use Rattle.jobs.specs.Numbers.{jobsIn}
 use Rattle.machine.specs.declared.Chart.{Chart}
 use Rattle.machine.specs.Chart.{chart}
 use Rattle.stretch.proofs.Together.{on-time, places-good, all-places-good, rows-le, Released, Rests, picks, ready, after, stretched, dues-after}

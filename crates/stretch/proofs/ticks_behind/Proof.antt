@@ -1,13 +1,9 @@
 -- `stretch::ticks_behind` meets its contract.
-use Prim.Native.Nat.{ℕ, suc, _+_, _-_, _≤_, _<_}
+use Prim.Native.Nat.{suc, _-_, _<_}
 use mathlib.Core.Path.{_≡_}
-use mathlib.Core.List.{List}
 use native.Mathlib.Omega.{arith}
 use borrow.Author.Needs.{needs}
-use lib.ListN.{getD}
-use Rattle.jobs.specs.Numbers.{jobIn}
 use Rattle.machine.proofs.Dues.{soonest-le}
-use Rattle.stretch.specs.Push.{Goes}
 use Rattle.stretch.proofs.ticks_behind.Statement.{statement}
 use Rattle.stretch.proofs.ticks_behind.Tie as tie
 

@@ -31,12 +31,12 @@ abbrev Read : List ℕ → ℕ → Type 0
 Read bs i = (k : ℕ) → k < i → rowNumber bs k ≡ 0
 
 -- the columns hold the first i rows
-pub record Columns (bs : List ℕ) (i : ℕ) (period c1 a c2 resource : List ℕ) : Type 0 where
-  pub of-period : period ≡ column bs i (λ t. t .period)
-  pub of-c1 : c1 ≡ column bs i (λ t. t .c1)
-  pub of-a : a ≡ column bs i (λ t. t .a)
-  pub of-c2 : c2 ≡ column bs i (λ t. t .c2)
-  pub of-resource : resource ≡ column bs i (λ t. t .resource)
+record Columns (bs : List ℕ) (i : ℕ) (period c1 a c2 resource : List ℕ) : Type 0 where
+  of-period : period ≡ column bs i (λ t. t .period)
+  of-c1 : c1 ≡ column bs i (λ t. t .c1)
+  of-a : a ≡ column bs i (λ t. t .a)
+  of-c2 : c2 ≡ column bs i (λ t. t .c2)
+  of-resource : resource ≡ column bs i (λ t. t .resource)
 
 abbrev Inv-loop : tie.InvT-loop
 Inv-loop bytes n m npp period₀ c1₀ a₀ c2₀ resource₀ i₀ period c1 a c2 resource i =
