@@ -54,8 +54,8 @@ static const change to_read[] = {
 static const change to_plan[] = {
     {"plan: case P as it is", NOTHING, 0, 39},
     {"plan: a sheet of 38 bytes", NOTHING, 0, 38},
-    {"plan: A of row 2 is 9, and row 1 may wait for it", A(2), 9, 39},
-    {"plan: C2 of row 1 is 5, and 1 + 5 + 5 is above T", C2(1), 5, 39},
+    {"plan: A of row 2 is 10, and row 1 may wait 9 ticks", A(2), 10, 39},
+    {"plan: C2 of row 1 is 6, and 1 + 4 + 6 is above T", C2(1), 6, 39},
 };
 
 /* What a run is handed beside case P. The first arrival is row 2 at tick 0, and row 1 comes behind it. */

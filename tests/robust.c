@@ -315,9 +315,10 @@ static void make_large_table(void)
     }
 }
 
-/* 64 rows of T 1,000,000 and 1, 1, 1, four to each of 16 resources. One processor serves all of these and
-   one runs all stages. Of rank k, better-ranked rows ask for k - 1 and 2(k - 1) units, once within the
-   period. Under PCP a row may wait for a lower-ranked one of its own resource alone; under NPP for any. */
+/* 64 rows of T 1,000,000 and 1, 2, 1, four to each of 16 resources. One processor serves all of these and
+   one runs all stages. Of rank k, better-ranked rows ask for 2(k - 1) units of either, once within the
+   period. Under PCP a row may wait, for a tick, for a lower-ranked one of its own resource alone; under NPP
+   for any. */
 static uint8_t shared_table[TABLE] = {0x81, 0x00};
 static uint8_t shared_plan[SHEET] = {0x81, 0x01, 0x08, 0x42, 0x10, 0x84, 0x21, 0x08, 0x42, 0x10, 0x84, 0x21};
 
@@ -325,14 +326,14 @@ static void make_shared_task(uint32_t rank, int npp)
 {
     size_t row = ROW(rank);
     int waits = npp ? rank < ROWS : rank % 4 > 0;
-    const edit fields[] = {{row, 20, 1000000}, {row + 20, 20, 1}, {row + 40, 20, 1}, {row + 60, 20, 1},
+    const edit fields[] = {{row, 20, 1000000}, {row + 20, 20, 1}, {row + 40, 20, 2}, {row + 60, 20, 1},
                            {row + 80, 5, 1 + (rank - 1) / 4}};
     for (size_t place = 0; place < sizeof fields / sizeof *fields; place++)
         set(shared_table, &fields[place]);
     size_t task = 8 * 12 + 72 * (rank - 1);
     set(shared_plan, &(edit){task, 5, 2});
     set(shared_plan, &(edit){task + 5, 20, 2 * rank - 1});
-    set(shared_plan, &(edit){task + 25, 20, rank + (waits ? 1 : 0)});
+    set(shared_plan, &(edit){task + 25, 20, 2 * rank + (waits ? 1 : 0)});
     set(shared_plan, &(edit){task + 45, 20, 2 * rank - 1});
 }
 

@@ -1,13 +1,13 @@
 //! The runs that are held to the bounds: planned tables with short periods and shared resources,
 //! and arrivals that are aimed at what the bounds allow for.
 
-use crate::plan::{blocking, plan, Place, Plan};
+use crate::plan::{in_the_way, plan, Place, Plan};
 use crate::random::{small_table, some_length, Random};
 use crate::rank::Ranks;
 use crate::run::Arrival;
 use crate::run_call::RunCall;
 use crate::runs::{crowded_table, hollow_table};
-use crate::table::{read, Protocol, Table, Task};
+use crate::table::{read, Table, Task};
 use crate::workloads::{fullest_within, largest_within, under};
 
 const MOST_TICKS: u64 = 4_096;
@@ -145,9 +145,9 @@ pub fn offsets(place: &Place) -> [u64; 3] {
 }
 
 /// A section and all better-ranked ones on its processor are released in one tick, and in the tick
-/// before the section whose length is B.
+/// before the section whose length is B and one more.
 fn lower_section_ahead(random: &mut Random, planned: &Planned) -> Vec<u64> {
-    let pairs = in_the_way(planned);
+    let pairs = longest_in_the_way(planned);
     if pairs.is_empty() {
         return at_any_tick(random, planned);
     }
@@ -157,22 +157,16 @@ fn lower_section_ahead(random: &mut Random, planned: &Planned) -> Vec<u64> {
     released_at_once(random, planned, &aims)
 }
 
-/// Rows with a section, each with a row whose section can be in its way for the longest time: "the
-/// largest A of a lower-ranked task on the same processor"
-fn in_the_way(planned: &Planned) -> Vec<(usize, usize)> {
+/// Rows with a section, each with a row whose section can be in its way for the longest time.
+fn longest_in_the_way(planned: &Planned) -> Vec<(usize, usize)> {
     let Planned { table, plan, .. } = planned;
     let ranks = Ranks::of(table);
     let mut pairs = Vec::new();
     for task in table.tasks.iter().filter(|task| task.has_section()) {
-        let rank = ranks.rank(task.row);
-        let b = blocking(table, &ranks, &plan.homes, task.row);
-        let blocks = |other: &&Task| {
-            let any = table.protocol == Protocol::Npp;
-            other.a == b && (any || ranks.ceiling(other.resource) <= rank)
-        };
-        let lower = planned.sections_beside(task.row);
-        let lower = lower.filter(|other| ranks.rank(other.row) > rank);
-        pairs.extend(lower.filter(blocks).map(|other| (task.row, other.row)));
+        let others = || in_the_way(table, &ranks, &plan.homes, task.row);
+        let longest = others().map(|other| other.a).max();
+        let longest = others().filter(|other| Some(other.a) == longest);
+        pairs.extend(longest.map(|other| (task.row, other.row)));
     }
     pairs
 }

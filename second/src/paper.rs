@@ -1,5 +1,6 @@
-//! The paper's "Numbers to hold it to", one by one, against figures typed from the paper; and one
-//! case for each of its other rules that a run of plain figures would not touch.
+//! The paper's "Numbers to hold it to", one by one, against figures typed from the paper and from
+//! its amendment "Blocking is a tick too long", or worked out by hand where that changes them; and
+//! one case for each of its other rules that a run of plain figures would not touch.
 
 use crate::answer::Refusal;
 use crate::listing::list;
@@ -12,7 +13,7 @@ use std::fmt::Debug;
 
 type Figure = (&'static str, fn() -> Result<(), String>);
 
-const FIGURES: [Figure; 27] = [
+const FIGURES: [Figure; 28] = [
     ("P's bytes", p_bytes),
     ("P's listing", p_listing),
     ("P's section bounds under PCP", p_sections_pcp),
@@ -27,6 +28,7 @@ const FIGURES: [Figure; 27] = [
     ("trials one after the other", further_trials),
     ("P runs 8 ticks", p_runs_8),
     ("P runs 6 ticks", p_runs_6),
+    ("P runs 5 ticks", p_runs_5),
     ("P with two arrivals", p_two_arrivals),
     ("longest period", longest_period),
     ("empty and long inputs", empty_and_long),
@@ -118,7 +120,7 @@ fn p_listing() -> Result<(), String> {
     let wanted = "plan 3 3 1\n\
                   resource 1 1\n\
                   resource 2 1\n\
-                  task 1 2 1 5 1\n\
+                  task 1 2 1 4 1\n\
                   task 2 2 4 5 4\n\
                   task 3 2 10 10 10\n";
     same(list(&p(PCP).bytes()), wanted.to_string())
@@ -129,18 +131,18 @@ fn sections(raw: &RawTable) -> Result<Vec<u64>, String> {
 }
 
 fn p_sections_pcp() -> Result<(), String> {
-    same(sections(&p(PCP))?, vec![5, 5, 10])
+    same(sections(&p(PCP))?, vec![4, 5, 10])
 }
 
 fn p_sections_npp() -> Result<(), String> {
-    same(sections(&p(NPP))?, vec![7, 10, 10])
+    same(sections(&p(NPP))?, vec![6, 9, 10])
 }
 
 fn p_plan_bytes() -> Result<(), String> {
     let mut sheet = [0; 39];
     plan_into(&p(PCP).bytes(), &mut sheet, 0).map_err(|no| no.to_string())?;
     same(&sheet[..4], &[0x06, 0x31, 0x08, 0x40])?;
-    let row_1 = [0x10, 0x00, 0x00, 0x80, 0x00, 0x28, 0x00, 0x00, 0x80];
+    let row_1 = [0x10, 0x00, 0x00, 0x80, 0x00, 0x20, 0x00, 0x00, 0x80];
     same(&sheet[12..21], &row_1[..])
 }
 
@@ -149,11 +151,11 @@ fn q_two() -> Result<(), String> {
 }
 
 fn q_three() -> Result<(), String> {
-    same(places(&q(3, 4))?, vec![[2, 4, 2, 4], [3, 4, 2, 4]])
+    same(places(&q(3, 4))?, vec![[2, 4, 1, 4], [3, 4, 2, 4]])
 }
 
 fn q_longer() -> Result<(), String> {
-    same(planned(&q(3, 5)), Err(refused(11, 1, 2)))
+    same(places(&q(3, 5))?, vec![[2, 4, 1, 5], [3, 4, 2, 4]])
 }
 
 fn full_sections() -> Result<(), String> {
@@ -217,7 +219,7 @@ fn p_runs_8() -> Result<(), String> {
     wanted[0][1] = 0x40;
     wanted[1][0] = 0x80;
     wanted[2][0] = 0x80;
-    wanted[6][1] = 0xc0;
+    wanted[5][1] = 0xc0;
     same(trace, wanted)?;
     same(done.worst[0], [1, 2, 1])?;
     same(done.worst[1..].concat(), vec![0; 189])?;
@@ -226,6 +228,13 @@ fn p_runs_8() -> Result<(), String> {
 
 fn p_runs_6() -> Result<(), String> {
     let (_, done) = runs(&p(PCP), &[arrival(0, 1, [1, 2, 1])], 0, 6)?;
+    same(done.worst[0], [1, 2, 1])?;
+    same(counts(&done), [1, 4, 0])
+}
+
+/// Stage two, which is released at 5, is owed.
+fn p_runs_5() -> Result<(), String> {
+    let (_, done) = runs(&p(PCP), &[arrival(0, 1, [1, 2, 1])], 0, 5)?;
     same(done.worst[0], [1, 2, 0])?;
     same(counts(&done), [0, 3, 1])
 }
@@ -235,7 +244,10 @@ fn p_two_arrivals() -> Result<(), String> {
     let (trace, done) = runs(&p(PCP), &both, 0, 20)?;
     let sections: Vec<u8> = trace[4..10].iter().map(|tick| tick[0]).collect();
     same(sections, vec![0x81, 0x81, 0x81, 0x80, 0x80, 0])?;
-    same(done.worst[0][1], 4)
+    // Both stages two are released at 9.
+    let stages: Vec<u8> = trace[8..13].iter().map(|tick| tick[1]).collect();
+    same(stages, vec![0, 0xc0, 0xc1, 0xc1, 0])?;
+    same(&done.worst[..2], &[[1, 4, 1], [2, 3, 3]])
 }
 
 fn longest_period() -> Result<(), String> {
@@ -248,7 +260,7 @@ fn empty_and_long() -> Result<(), String> {
     same(list(&[]), "refused 1 0 0\n".to_string())?;
     let mut long = raw::table(16, NPP, &[(9, 1, 1, 1, 16); 64]).bytes();
     same(long.len(), 706)?;
-    same(list(&long), "refused 11 9 1\n".to_string())?;
+    same(list(&long), "refused 11 10 1\n".to_string())?;
     long.extend([0; 500]);
     same(list(&long), "refused 5 0 0\n".to_string())?;
     long[1] |= 1;

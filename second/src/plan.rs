@@ -123,21 +123,30 @@ fn sharing<'a>(table: &'a Table, homes: &'a Homes, row: usize) -> impl Iterator<
         .filter(move |o| o.row != row && o.has_section() && homes[o.resource] == here)
 }
 
-/// B of the task in `row`, "0 if there is none".
-pub fn blocking(table: &Table, ranks: &Ranks, homes: &Homes, row: usize) -> u64 {
+/// The tasks whose sections can be in the way of the section in `row`.
+pub fn in_the_way<'a>(
+    table: &'a Table,
+    ranks: &'a Ranks,
+    homes: &'a Homes,
+    row: usize,
+) -> impl Iterator<Item = &'a Task> {
     let own = ranks.rank(row);
     sharing(table, homes, row)
         // "of a lower-ranked task on the same processor": a larger rank number is a lower rank.
-        .filter(|o| ranks.rank(o.row) > own)
-        .filter(|o| match table.protocol {
+        .filter(move |o| ranks.rank(o.row) > own)
+        .filter(move |o| match table.protocol {
             // "whose resource has a ceiling at or above k's rank"
             Protocol::Pcp => ranks.ceiling(o.resource) <= own,
             // "any lower-ranked task there"
             Protocol::Npp => true,
         })
-        .map(|o| o.a)
-        .max()
-        .unwrap_or(0)
+}
+
+/// B of the task in `row`: "the largest such A less 1, under both protocols, and still 0 if there is
+/// none". It "can only be in the way if it ran a unit before".
+pub fn blocking(table: &Table, ranks: &Ranks, homes: &Homes, row: usize) -> u64 {
+    let longest = in_the_way(table, ranks, homes, row).map(|o| o.a).max();
+    longest.map_or(0, |a| a - 1)
 }
 
 /// What S of the task in `row` is the least t of: A + B, and the terms of "better-ranked tasks i

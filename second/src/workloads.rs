@@ -354,10 +354,10 @@ fn long_search(random: &mut Random) -> Vec<u8> {
     let rows = match random.within(0, 6) {
         0 => vec![(period, period - 1, 0, 0, 0), (long, own, 0, 0, 0)],
         1 => vec![(period, 0, 0, period - 1, 0), (long, 0, 1, own, 1)],
-        // Sections of one tick each, so that nobody is blocked for more than that.
+        // Sections of a tick or two each, so that nobody is blocked for more than one.
         2 => {
             let users = random.within(1, 60) as usize;
-            let mut rows = vec![(long, 0, 1, 0, 2); users];
+            let mut rows = vec![(long, 0, random.within(1, 2), 0, 2); users];
             rows.insert(random.pick(&[0, users]), (period, 0, period - 1, 0, 1));
             rows
         }

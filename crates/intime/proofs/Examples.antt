@@ -1,4 +1,5 @@
--- Two runs of case P under the theorem: one in which a section waits behind a lower-ranked one and ends, and one in which a bound is met exactly.
+-- Two runs of case P under the theorem, in each of which a bound is met exactly: that of a section which waits behind a lower-ranked one,
+-- and that of one which a better-ranked one goes before.
 use Prim.Native.Nat.{ℕ, _+_}
 use mathlib.Core.Path.{_≡_, refl}
 use mathlib.Core.List.{List, [], _∷_}
@@ -45,15 +46,15 @@ abbrev row : Arrivals → ℕ → ℕ → Place × ℕ
 row ar i n = (released P planP ar n i .place, released P planP ar n i .begun)
 
 -- Row 1 arrives at 4. Its section, released at 5, waits in ticks 5 and 6 while the lower-ranked row 2 is at its section, begun in
--- tick 4; it runs in ticks 7 and 8 and ends at 9, within its bound of 5.
+-- tick 4; it runs in ticks 7 and 8 and ends at 9: exactly its bound of 4 later, so B could not be less by another unit.
 pub record Waited (ar : Arrivals) : Type 0 where
   pub ranks : (getD (P .rank) 0 0 ≡ 0) × (getD (P .rank) 1 0 ≡ 1)
   pub release : releaseOf planP 0 4 1 ≡ 5
-  pub bound : boundOf planP 0 1 ≡ 5
+  pub bound : boundOf planP 0 1 ≡ 4
   pub waits : row ar 0 5 ≡ (Running 1 2, 0)
   pub lower : row ar 1 5 ≡ (Running 1 2, 5)
   pub lanes : (lane1 ar 5 ≡ 2) × (lane1 ar 6 ≡ 2) × (lane1 ar 7 ≡ 1) × (lane1 ar 8 ≡ 1)
-  pub ends : Ends P planP ar 0 4 1 (1 ∷ 2 ∷ 1 ∷ []) 9
+  pub ends : Ends P planP ar 0 4 1 (1 ∷ 2 ∷ 1 ∷ []) (5 + 4)
 
 -- Row 1 arrives at 3. Row 2's section, released at 4 together with row 1's, ends at 9: exactly its bound of 5 later.
 pub record Exact (ar : Arrivals) : Type 0 where
@@ -98,10 +99,10 @@ under tick good =
     demand-3 bytesP (computed .read) (computed .planned) (brings (two tick))
     (list-valid P (table-good bytesP (readingOf bytesP) refl (computed .read)) (two tick) good)
 
--- the theorem holds of both runs, and in the first a section waits,
+-- the theorem holds of both runs: in the first a section waits and meets its bound exactly,
 pub waited : InTime P planP (brings (two 4)) × Waited (brings (two 4))
 waited = (under 4 (computed .heard4), computed .at4)
 
--- in the second a bound is met exactly
+-- in the second so does one that is not blocked
 pub exact : InTime P planP (brings (two 3)) × Exact (brings (two 3))
 exact = (under 3 (computed .heard3), computed .at3)

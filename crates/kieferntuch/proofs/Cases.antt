@@ -1,4 +1,6 @@
--- The paper's "Numbers to hold it to": its starred cases of planning and of runs in one table, under one statement, each computed by the definitions.
+-- The paper's "Numbers to hold it to": its starred cases of planning and of runs, as "Blocking is a tick too long" amends them, in one
+-- table, under one statement, each computed by the definitions. A figure in quotation marks is the paper's; the others were worked out by
+-- hand from the amended rule.
 use Prim.Native.Nat.{ℕ, _+_, _-_}
 use mathlib.Core.Path.{_≡_, refl}
 use mathlib.Core.Bool.{cond}
@@ -88,19 +90,20 @@ cases =
     ∷ bytes (Q 3 5) (hex "04 30|00 00 A0 00 04 00 00 10 00 05 08|00 00 A0 00 04 00 00 10 00 04 08")
     ∷ bytes (2, PCP, (4, 0, 3, 0, 1) ∷ (4, 0, 3, 0, 1) ∷ []) (hex "04 20|00 00 40 00 00 00 00 30 00 00 08|00 00 40 00 00 00 00 30 00 00 08")
     ∷ bytes (2, PCP, (1, 1, 0, 0, 0) ∷ []) (hex "02 20|00 00 10 00 01 00 00 00 00 00 00")
-    -- "*P under PCP: S 5, 5, 10."; "*P's plan, row 1: 10 00 00 80 00 28 00 00 80. Its first four bytes: 06 31 08 40."
-    ∷ planned (P PCP) ((3, 3, 1), (1, 1) ∷ (2, 1) ∷ [], (2, 1, 5, 1) ∷ (2, 4, 5, 4) ∷ (2, 10, 10, 10) ∷ []) 0 (AA 39)
-    (hex "06 31|08 40 00 00 00 00 00 00 00 00|10 00 00 80 00 28 00 00 80|10 00 02 00 00 28 00 02 00|10 00 05 00 00 50 00 05 00")
-    -- "*Under NPP: S 7, 10, 10, all fit."
-    ∷ planned (P NPP) ((3, 3, 1), (1, 1) ∷ (2, 1) ∷ [], (2, 1, 7, 1) ∷ (2, 4, 10, 4) ∷ (2, 10, 10, 10) ∷ []) 0 (AA 39)
-    (hex "06 31|08 40 00 00 00 00 00 00 00 00|10 00 00 80 00 38 00 00 80|10 00 02 00 00 50 00 02 00|10 00 05 00 00 50 00 05 00")
+    -- *P under PCP: S 4, 5, 10; *P's plan, row 1: 10 00 00 80 00 20 00 00 80. "Its first four bytes: 06 31 08 40."
+    ∷ planned (P PCP) ((3, 3, 1), (1, 1) ∷ (2, 1) ∷ [], (2, 1, 4, 1) ∷ (2, 4, 5, 4) ∷ (2, 10, 10, 10) ∷ []) 0 (AA 39)
+    (hex "06 31|08 40 00 00 00 00 00 00 00 00|10 00 00 80 00 20 00 00 80|10 00 02 00 00 28 00 02 00|10 00 05 00 00 50 00 05 00")
+    -- *Under NPP: S 6, 9, 10, all fit.
+    ∷ planned (P NPP) ((3, 3, 1), (1, 1) ∷ (2, 1) ∷ [], (2, 1, 6, 1) ∷ (2, 4, 9, 4) ∷ (2, 10, 10, 10) ∷ []) 0 (AA 39)
+    (hex "06 31|08 40 00 00 00 00 00 00 00 00|10 00 00 80 00 30 00 00 80|10 00 02 00 00 48 00 02 00|10 00 05 00 00 50 00 05 00")
     -- "*Q: two rows (10,4,1,4,1), PCP, m = 2: refused 11, row 2, mark 2."
     ∷ refused (Q 2 4) (11, 2, 2) 0 (AA 30)
-    -- "*m = 3: planned, rows on 2 and 3, each 4, 2, 4."
-    ∷ planned (Q 3 4) ((2, 3, 1), (1, 1) ∷ [], (2, 4, 2, 4) ∷ (3, 4, 2, 4) ∷ []) 0 (AA 30)
-    (hex "04 31|08 00 00 00 00 00 00 00 00 00|10 00 02 00 00 10 00 02 00|18 00 02 00 00 10 00 02 00")
-    -- "*Q with m = 3 and C2 = 5 in row 1: 11, row 1, mark 2."
-    ∷ refused (Q 3 5) (11, 1, 2) 0 (AA 30)
+    -- *m = 3: planned, rows on 2 and 3, with 4, 1, 4 and 4, 2, 4.
+    ∷ planned (Q 3 4) ((2, 3, 1), (1, 1) ∷ [], (2, 4, 1, 4) ∷ (3, 4, 2, 4) ∷ []) 0 (AA 30)
+    (hex "04 31|08 00 00 00 00 00 00 00 00 00|10 00 02 00 00 08 00 02 00|18 00 02 00 00 10 00 02 00")
+    -- *Q with m = 3 and C2 = 5 in row 1: planned too, since 4 + 1 + 5 is row 1's period.
+    ∷ planned (Q 3 5) ((2, 3, 1), (1, 1) ∷ [], (2, 4, 1, 5) ∷ (3, 4, 2, 4) ∷ []) 0 (AA 30)
+    (hex "04 31|08 00 00 00 00 00 00 00 00 00|10 00 02 00 00 08 00 02 80|18 00 02 00 00 10 00 02 00")
     -- "*m = 2, two rows (4,0,3,0,1), PCP: 11, row 1, mark 1."
     ∷ refused (2, PCP, (4, 0, 3, 0, 1) ∷ (4, 0, 3, 0, 1) ∷ []) (11, 1, 1) 0 (AA 30)
     -- "*m = 2, one row (1,1,0,0,0): s 0, processor 1, bounds 1, 0, 0."
@@ -114,20 +117,27 @@ cases =
     ∷ refused (2, PCP, (1, 1, 0, 0, 0) ∷ []) (10, 0, 0) 2 (AA 22)
     -- Q with m = 2, one byte short: "The lowest number wins", so not 11
     ∷ refused (Q 2 4) (10, 0, 0) 0 (AA 29)
-    -- "*P, PCP, row 1 arrives at 0 with 1, 2, 1; f 0, w 8: processor 2 shows 40 at tick 0 and C0 at 6, processor 1 shows 80 at ticks 1
-    -- and 2. Worst 1, 2, 1; 1 job, run 4, owed 0."; two bytes are lent behind the trace
+    -- *P, PCP, row 1 arrives at 0 with 1, 2, 1; f 0, w 8: processor 2 shows 40 at tick 0 and C0 at 5, processor 1 shows 80 at ticks 1
+    -- and 2. "Worst 1, 2, 1; 1 job, run 4, owed 0."; two bytes are lent behind the trace
     ∷ ran (P PCP) (arrival 0 1 (1, 2, 1) ∷ []) (0, 8) ((1, 2, 1) ∷ []) (1, 4, 0) (AA 26)
-    (hex "00 40 00|80 00 00|80 00 00|00 00 00|00 00 00|00 00 00|00 C0 00|00 00 00|AA AA")
-    -- "*w 6: worst 1, 2, 0; no job, run 3, owed 1."
-    ∷ ran (P PCP) (arrival 0 1 (1, 2, 1) ∷ []) (0, 6) ((1, 2, 0) ∷ []) (0, 3, 1) (AA 18)
-    (hex "00 40 00|80 00 00|80 00 00|00 00 00|00 00 00|00 00 00")
+    (hex "00 40 00|80 00 00|80 00 00|00 00 00|00 00 00|00 C0 00|00 00 00|00 00 00|AA AA")
+    -- *"w 6 now: worst 1, 2, 1; 1 job, run 4, owed 0"
+    ∷ ran (P PCP) (arrival 0 1 (1, 2, 1) ∷ []) (0, 6) ((1, 2, 1) ∷ []) (1, 4, 0) (AA 18)
+    (hex "00 40 00|80 00 00|80 00 00|00 00 00|00 00 00|00 C0 00")
+    -- w 5: stage two is not yet released; worst 1, 2, 0; no job, run 3, owed 1
+    ∷ ran (P PCP) (arrival 0 1 (1, 2, 1) ∷ []) (0, 5) ((1, 2, 0) ∷ []) (0, 3, 1) (AA 15)
+    (hex "00 40 00|80 00 00|80 00 00|00 00 00|00 00 00")
     -- "*P, PCP, row 2 at 0 (2, 3, 2), row 1 at 4 (1, 2, 1): row 2's section takes ticks 4 to 6, row 1's section is released at 5,
-    -- takes 7 and 8, response 4."; the window begins at tick 3
+    -- takes 7 and 8, response 4."; both stages two are released at 9; the window begins at tick 3
     ∷ ran (P PCP) (arrival 0 2 (2, 3, 2) ∷ arrival 4 1 (1, 2, 1) ∷ []) (3, 9) ((1, 4, 1) ∷ (2, 3, 3) ∷ []) (2, 11, 0) (AA 27)
-    (hex "00 00 00|81 40 00|81 00 00|81 00 00|80 00 00|80 00 00|00 C1 00|00 C0 00|00 C1 00")
+    (hex "00 00 00|81 40 00|81 00 00|81 00 00|80 00 00|80 00 00|00 C0 00|00 C1 00|00 C1 00")
+    -- P, NPP, row 3 at 0 (4, 5, 4), row 1 at 10 (1, 2, 1): row 3's section takes ticks 10 to 14, row 1's section is released at 11,
+    -- takes 15 and 16, response 6: its bound; the window begins at tick 10
+    ∷ ran (P NPP) (arrival 0 3 (4, 5, 4) ∷ arrival 10 1 (1, 2, 1) ∷ []) (10, 8) ((1, 6, 1) ∷ (0, 0, 0) ∷ (4, 5, 0) ∷ []) (1, 13, 4) (AA 24)
+    (hex "82 40 00|82 00 00|82 00 00|82 00 00|82 00 00|80 00 00|80 00 00|00 C0 00")
     ∷ []
 
 -- "Cases marked * are the proved ones."
 every-case : All cases
 unfolding cases running planAnswer sheetAfter width behind bytesOf packed headerBytes processorFields resourceBytes taskBytes taskOf planBytes
-every-case = ((refl, refl), ((refl, refl), ((refl, refl), ((refl, refl), ((refl, refl), ((refl, refl), ((refl, refl), ((refl, refl), ((refl, refl), (refl, ((refl, refl), (refl, (refl, ((refl, refl), ((refl, refl), (refl, (refl, (refl, (refl, (refl, tt))))))))))))))))))))
+every-case = ((refl, refl), ((refl, refl), ((refl, refl), ((refl, refl), ((refl, refl), ((refl, refl), ((refl, refl), ((refl, refl), ((refl, refl), (refl, ((refl, refl), ((refl, refl), (refl, ((refl, refl), ((refl, refl), (refl, (refl, (refl, (refl, (refl, (refl, (refl, tt))))))))))))))))))))))

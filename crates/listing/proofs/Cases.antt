@@ -31,12 +31,12 @@ All ((table, lines) ∷ cs) = (listingOf (readingOf table) ≡ bytesOf lines) ×
 -- the paper's figures that are printed
 cases : List Case
 cases =
-    -- P under PCP: "For P it prints exactly"
-    (written (P PCP), "plan 3 3 1" ∷ "resource 1 1" ∷ "resource 2 1" ∷ "task 1 2 1 5 1" ∷ "task 2 2 4 5 4" ∷ "task 3 2 10 10 10" ∷ [])
+    -- P under PCP: "For P it prints exactly", with 4 for row 1's section
+    (written (P PCP), "plan 3 3 1" ∷ "resource 1 1" ∷ "resource 2 1" ∷ "task 1 2 1 4 1" ∷ "task 2 2 4 5 4" ∷ "task 3 2 10 10 10" ∷ [])
     -- "m = 2, one row (1,1,0,0,0): s 0, processor 1, bounds 1, 0, 0": no resource is used
     ∷ (written (2, PCP, (1, 1, 0, 0, 0) ∷ []), "plan 1 2 0" ∷ "task 1 1 1 0 0" ∷ [])
-    -- "Q with m = 3 and C2 = 5 in row 1: 11, row 1, mark 2."
-    ∷ (written (Q 3 5), "refused 11 1 2" ∷ [])
+    -- "Q: two rows (10,4,1,4,1), PCP, m = 2: refused 11, row 2, mark 2."
+    ∷ (written (Q 2 4), "refused 11 2 2" ∷ [])
     -- one row of period 1,000,001: "1,000,001 is refusal 6", and "Mark is 0 but for 11"
     ∷ (hex "02 20|F4 24 10 00 01 00 00 00 00 00 00", "refused 6 1 0" ∷ [])
     -- "Empty input is refusal 1."

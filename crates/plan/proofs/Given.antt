@@ -6,7 +6,7 @@ use Rattle.table.proofs.Given.{Given, reading}
 use Rattle.bounds.specs.Demand.{ceil, demand}
 use Rattle.bounds.specs.Terms.{termsOn}
 use Rattle.bounds.specs.Bound.{least, boundOf}
-use Rattle.sections.specs.Blocking.{mayBlock, blockingOf}
+use Rattle.sections.specs.Blocking.{mayBlock, largestA, blockingOf}
 use Rattle.sections.specs.Section.{sectionBound, firstMissing, sectionsOf}
 use Rattle.stages.specs.Fit.{fitOf, fitAmong, placeWith, placeAmong}
 use Rattle.stages.specs.Stage.{fitOn, placed, placeOf, firstNowhere, stagesTo, stagesOf}
@@ -19,5 +19,5 @@ use Rattle.plan.specs.Planning.{failures, planningOf, plannedOf}
 
 -- what planning makes of it; whoever unfolds this unfolds all that reading and planning compute by
 unfoldable pub planning : Given → Tried
-unfolding reading blank largest inRank inRows numbersTo ceil demand termsOn least boundOf mayBlock blockingOf sectionBound firstMissing sectionsOf fitOf fitAmong placeWith placeAmong fitOn placed placeOf firstNowhere stagesTo stagesOf weightOf weightsOf usedOf lacksOf heaviestOf lightestOf loadsOf servesOf weighed tasksOf numberOf namesOf markOf planBy serves homes sections stages trialOf failures planningOf plannedOf
+unfolding reading blank largest inRank inRows numbersTo ceil demand termsOn least boundOf mayBlock largestA blockingOf sectionBound firstMissing sectionsOf fitOf fitAmong placeWith placeAmong fitOn placed placeOf firstNowhere stagesTo stagesOf weightOf weightsOf usedOf lacksOf heaviestOf lightestOf loadsOf servesOf weighed tasksOf numberOf namesOf markOf planBy serves homes sections stages trialOf failures planningOf plannedOf
 planning t = plannedOf (reading t .table)

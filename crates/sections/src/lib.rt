@@ -39,7 +39,7 @@ fn larger_if(counts: bool, len: u32, most: u32) -> u32
     most
 }
 
-// The blocking of task k of n.
+// The blocking of task k of n: the largest section that may be in the way, less the unit that it ran before.
 fn blocking(
     npp: bool,
     section: &[u32; 64],
@@ -62,7 +62,10 @@ fn blocking(
         );
         i += 1;
     }
-    most
+    if most < 1 {
+        return 0;
+    }
+    most - 1
 }
 
 // The bounds of the sections of n tasks, in rank order, up to the first that is missing.

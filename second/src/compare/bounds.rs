@@ -29,7 +29,7 @@ const COUNTED: [Counted; 11] = [
     ("just at their bound", 500),
     ("of these behind others", 50),
     ("sections behind a lower-ranked one", 2_000),
-    ("of these one tick short of their bound", 300),
+    ("of these just at their bound", 300),
     ("stages and sections put aside", 2_000),
 ];
 
@@ -170,7 +170,7 @@ fn counted(seen: &Seen, bounds: &Bounds, stage: &Stage) -> [bool; COUNTED.len()]
         section && tight,
         section && behind,
         seen.waits_for_a_lower(stage),
-        is_one_short_behind_a_lower(seen, bounds, stage),
+        tight && seen.waits_for_a_lower(stage),
         stage.is_put_aside(),
     ]
 }
@@ -179,13 +179,6 @@ fn counted(seen: &Seen, bounds: &Bounds, stage: &Stage) -> [bool; COUNTED.len()]
 fn is_tight(bounds: &Bounds, stage: &Stage) -> bool {
     let bound = stage.bound(bounds);
     bound > 0 && stage.response() == Some(bound)
-}
-
-/// A section behind a lower-ranked one does not end just at its bound: that one has run a unit
-/// before it is released, and B counts all of them. So one tick short is as late as it can be.
-fn is_one_short_behind_a_lower(seen: &Seen, bounds: &Bounds, stage: &Stage) -> bool {
-    let one_more = stage.response().map(|response| response + 1);
-    one_more == Some(stage.bound(bounds)) && seen.waits_for_a_lower(stage)
 }
 
 #[cfg(test)]
@@ -226,28 +219,16 @@ mod tests {
         Ok(())
     }
 
-    /// By how much its bound has to be lower for a stage to be late, if that is known.
-    fn late_by(seen: &Seen, bounds: &Bounds, stage: &Stage) -> Option<u64> {
-        match () {
-            _ if is_tight(bounds, stage) => Some(1),
-            _ if is_one_short_behind_a_lower(seen, bounds, stage) => Some(2),
-            _ => None,
-        }
-    }
-
-    /// With any one of these bounds lower, and the run as it was.
+    /// With any one of the bounds that are met lower by one, and the run as it was.
     #[test]
     fn a_lower_bound_is_passed() -> Result<(), String> {
         for run in PROTOCOLS.iter().flat_map(|&(of, _)| runs(2, of, 20)) {
             let bounds = bounds(&run.planned.plan);
             let (ran, trace) = run.call.plainly();
             let seen = run.seen(&trace)?;
-            for stage in seen.stages() {
-                let Some(by) = late_by(&seen, &bounds, stage) else {
-                    continue;
-                };
+            for stage in seen.stages().filter(|stage| is_tight(&bounds, stage)) {
                 let mut lower = bounds.clone();
-                lower[stage.row - 1][stage.which] -= by;
+                lower[stage.row - 1][stage.which] -= 1;
                 let why = seen.holds(&lower).expect_err("a lower bound");
                 let late = format!("late, bound {}: row {},", stage.bound(&lower), stage.row);
                 assert!(why.starts_with(&late), "{why}");
@@ -310,6 +291,13 @@ mod tests {
         s_of(table, ranks, plan, |task, _, terms| (task.a, terms));
     }
 
+    /// B as the largest such A less 2, as if the section in the way had run two units before.
+    fn with_blocking_less_two(table: &Table, ranks: &Ranks, plan: &mut Plan) {
+        s_of(table, ranks, plan, |task, own, terms| {
+            ((own - 1).max(task.a), terms)
+        });
+    }
+
     /// Of a better-ranked row one release counts, however long the wait.
     fn with_one_release(table: &Table, ranks: &Ranks, plan: &mut Plan) {
         s_of(table, ranks, plan, |_, own, terms| {
@@ -334,10 +322,8 @@ mod tests {
                     && ranks.rank(other.row) > rank
                     && count(ranks.ceiling(other.resource), rank)
             });
-            (
-                task.a + lower.map(|other| other.a).max().unwrap_or(0),
-                terms,
-            )
+            let longest = lower.map(|other| other.a).max();
+            (task.a + longest.map_or(0, |a| a - 1), terms)
         });
     }
 
@@ -377,8 +363,9 @@ mod tests {
     #[test]
     fn mistakes_in_plans_are_seen() {
         let both = [0, 1];
-        let mistakes: [(&str, &[u64], Mistake); 5] = [
+        let mistakes: [(&str, &[u64], Mistake); 6] = [
             ("without blocking", &both, without_blocking),
+            ("with blocking less two", &both, with_blocking_less_two),
             ("with one release", &both, with_one_release),
             ("without better stages", &both, without_better_stages),
             ("without equal ceilings", &[0], without_equal_ceilings),

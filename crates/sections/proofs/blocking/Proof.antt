@@ -1,16 +1,16 @@
--- `sections::blocking` meets its contract. The loop's invariant: the largest so far is the blocking among the first i tasks.
+-- `sections::blocking` meets its contract. The loop's invariant: the largest so far is that among the first i tasks.
 use Prim.Native.Nat.{_-_, _≤_, _<_}
 use mathlib.Core.Path.{_≡_, sym}
 use native.Mathlib.Omega.{arith}
 use borrow.Author.Needs.{needs}
-use Rattle.sections.specs.Blocking.{blockingOf}
-use Rattle.sections.proofs.Blocks.{blocking-from, blocking-more}
+use Rattle.sections.specs.Blocking.{largestA}
+use Rattle.sections.proofs.Blocks.{largestA-from, largestA-more, blocking-is}
 use Rattle.sections.proofs.blocking.Statement.{statement}
 use Rattle.sections.proofs.blocking.Tie as tie
 
 abbrev Inv-loop : tie.InvT-loop
 Inv-loop npp section top home n k here most₀ i₀ most i =
-    (k < i) × (i ≤ n) × (most ≡ blockingOf npp section top home i k)
+    (k < i) × (i ≤ n) × (most ≡ largestA npp section top home i k)
 
 abbrev μ-loop : tie.MeasureT-loop
 μ-loop npp section top home n k here most₀ i₀ most i = n - i
@@ -27,7 +27,7 @@ add-i c = search needs
 loop-holds : tie.Need-loop-holds Inv-loop μ-loop
 loop-holds c =
     let a = c .before .args in
-    (omega arith, omega arith, sym (blocking-from (a .npp) (a .section .now) (a .top .now) (a .home .now) (a .k)))
+    (omega arith, omega arith, sym (largestA-from (a .npp) (a .section .now) (a .top .now) (a .home .now) (a .k)))
 
 mul-counts : tie.Need-mul-counts Inv-loop μ-loop
 mul-counts c = search needs
@@ -66,14 +66,19 @@ loop-again : tie.Need-loop-again Inv-loop μ-loop
 loop-again c =
     let a = c .before .before .before .before .before .before .before .before .args in
     let l = c .before .before .before .before .before .before .loop in
-    (omega arith, omega arith, rw (c .larger-if .ensures, c .before .before .counts .ensures, l .inv .2, blocking-more (a .npp) (a .section .now) (a .top .now) (a .home .now) (a .k) (l .i) (omega arith)))
+    (omega arith, omega arith, rw (c .larger-if .ensures, c .before .before .counts .ensures, l .inv .2, largestA-more (a .npp) (a .section .now) (a .top .now) (a .home .now) (a .k) (l .i) (omega arith)))
 
 returns : tie.Need-returns Inv-loop μ-loop
 returns c =
-    let a = c .before .before .before .args in
-    let l = c .before .loop in
-    let q : l .i ≡ a .n = omega arith in
-    rw q at (l .inv .2)
+    let a = c .before .before .before .before .args in
+    let l = c .before .before .loop in
+    omega (arith, blocking-is (a .npp) (a .section .now) (a .top .now) (a .home .now) (a .k) (l .i) (a .n) (l .most) (omega arith) (l .inv .2))
+
+returns-2 : tie.Need-returns-2 Inv-loop μ-loop
+returns-2 c =
+    let a = c .before .before .before .before .args in
+    let l = c .before .before .loop in
+    blocking-is (a .npp) (a .section .now) (a .top .now) (a .home .now) (a .k) (l .i) (a .n) (l .most) (omega arith) (l .inv .2)
 
 pub blocking-spec : {M : Type 1} → statement M
 blocking-spec =
@@ -97,4 +102,5 @@ blocking-spec =
     add-i-2
     loop-less
     loop-again
-    returns)
+    returns
+    returns-2)

@@ -236,7 +236,8 @@ mod tests {
     use crate::table::read;
 
     /// Case P with row 2 at 0 and row 1 at 4 and 14: row 2's section takes ticks 4 to 6, row 1's is
-    /// released at 5 and takes 7 and 8, and its stage two takes 10.
+    /// released at 5 and takes 7 and 8. Both stages two are released at 9; row 1's takes that tick,
+    /// row 2's takes 10 and 11.
     struct Case {
         table: Table,
         plan: Plan,
@@ -293,16 +294,18 @@ mod tests {
     #[test]
     fn what_comes_late_or_never() -> Result<(), String> {
         let case = case()?;
-        let late = "late, bound 5: row 1, section, released at 5, ended at 11";
-        assert_eq!(case.said(1, 8, 9, 0), "");
-        assert_eq!(case.said(1, 8, 10, 0), late);
+        let late = "late, bound 4: row 1, section, released at 5, ended at 10";
+        assert_eq!(case.said(1, 8, 9, 0), late);
+        let late = "late, bound 4: row 2, stage two, released at 9, ended at 14";
+        assert_eq!(case.said(2, 11, 12, 0), "");
+        assert_eq!(case.said(2, 11, 13, 0), late);
         let mut trace = case.trace.clone();
         trace[3 * 8] = 0;
-        let never = "late, bound 5: row 1, section, released at 5, unfinished with 1 of 2 units";
+        let never = "late, bound 4: row 1, section, released at 5, unfinished with 1 of 2 units";
         assert_eq!(case.said_of(&trace, 0), never);
-        // Up to tick 9 it could still end in time.
-        assert_eq!(case.said_of(&trace[..3 * 9], 0), "");
-        assert_eq!(case.said_of(&trace[..3 * 10], 0), never);
+        // Before tick 8 is stepped, it could still end in time.
+        assert_eq!(case.said_of(&trace[..3 * 8], 0), "");
+        assert_eq!(case.said_of(&trace[..3 * 9], 0), never);
         Ok(())
     }
 
@@ -312,9 +315,9 @@ mod tests {
         // In the same job, and in the job before.
         let said = case.said(1, 8, 10, 9);
         let early =
-            "released too early: row 1, stage two, released at 10, ended at 11, behind row 1";
+            "released too early: row 1, stage two, released at 9, ended at 10, behind row 1";
         assert!(said.starts_with(early), "{said}");
-        let said = case.said(2, 10, 15, 9);
+        let said = case.said(2, 9, 15, 9);
         let early = "released too early: row 1, stage one, released at 14, ended at";
         assert!(said.starts_with(early), "{said}");
         Ok(())
