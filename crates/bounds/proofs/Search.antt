@@ -144,11 +144,16 @@ module _ (terms : List Term) (blocking limit t : ℕ) where
   pub bound-exactly : (len : ℕ) → (boundOf terms len blocking limit ≡ At t) ↔ (LeastBound terms len blocking t × (t ≤ limit))
   bound-exactly len = (bound-least len, λ (b, l). bound-given len b l)
 
-  -- where none is given, what is answered is the first member above the limit of the sequence that starts with the length plus B
-  pub bound-breaks : (len : ℕ) → boundOf terms len blocking limit ≡ Missing t → (1 ≤ len) × Breaks terms (len + blocking) limit t
+  -- none is given exactly where a length of at least 1 has a first member above the limit in the sequence that starts with the length plus B,
+  -- and that is the value
+  pub broke-exactly : (len : ℕ) → (boundOf terms len blocking limit ≡ Missing t) ↔ ((1 ≤ len) × Breaks terms (len + blocking) limit t)
   unfolding boundOf
-  bound-breaks zero h = clash cc
-  bound-breaks (suc len) h = (omega arith, least-breaks terms (suc len + blocking) limit t (omega arith) (rw (ne-eqb (suc len) 0 (λ e. omega arith)) at h))
+  broke-exactly zero = ((λ h. clash cc), λ (l, b). absurd (omega arith))
+  broke-exactly (suc len) =
+      rw (ne-eqb (suc len) 0 (λ e. omega arith)) (
+        (λ h. (omega arith, least-breaks terms (suc len + blocking) limit t (omega arith) h)),
+        λ (l, b). least-none terms (suc len + blocking) limit t (omega arith) b,
+      )
 
 -- none is missing exactly when there is one that is at most the limit
 pub bound-there : (terms : List Term) (len blocking limit : ℕ) → (isMissing (boundOf terms len blocking limit) ≡ false) ↔ ((t : ℕ) × LeastBound terms len blocking t × (t ≤ limit))
@@ -169,4 +174,4 @@ broke-small terms len blocking limit g few a b c = go (boundOf terms len blockin
   where
     go : (x : Bound) → boundOf terms len blocking limit ≡ x → brokeOf x ≤ 130000000
     go (At t) e = zero-le
-    go (Missing v) e = breaks-small terms (len + blocking) limit v g few (omega arith) c (bound-breaks terms blocking limit v len e .1)
+    go (Missing v) e = breaks-small terms (len + blocking) limit v g few (omega arith) c (broke-exactly terms blocking limit v len .0 e .1)

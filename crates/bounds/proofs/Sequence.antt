@@ -1,6 +1,6 @@
 -- The sequence of a search, once for every list of terms: it grows until a time covers, so where none does up to the limit, one of its
 -- members is the first above it.
-use Prim.Native.Nat.{ℕ, zero, suc, _+_, _*_, _≤_, _<_}
+use Prim.Native.Nat.{ℕ, zero, suc, _+_, _≤_, _<_}
 use mathlib.Core.Path.{_≡_, refl, sym, _∙_, ap}
 use mathlib.Core.Bool.{Bool}
 use mathlib.Core.List.{List}

@@ -17,7 +17,7 @@ use Rattle.bounds.specs.Bound.{isMissing, brokeOf}
 use Rattle.bounds.specs.declared.Bound.{Bound}
 use Rattle.bounds.specs.declared.Bound.the-variants.{At, Missing}
 use Rattle.bounds.proofs.Terms.{on-good, length-on}
-use Rattle.bounds.proofs.Search.{bound-breaks, broke-small}
+use Rattle.bounds.proofs.Search.{broke-exactly, broke-small}
 use Rattle.sections.specs.Blocking.{blockingOf}
 use Rattle.sections.specs.Good.{GoodSections}
 use Rattle.sections.specs.Section.{sectionBound, firstMissing, missingValue}
@@ -42,7 +42,7 @@ module _ (npp : Bool) (periods sections tops homes : List ℕ) (n : ℕ) where
     where
       go : (b : Bound) → sectionBound npp periods sections tops homes n lacking ≡ b → isMissing b ≡ true → Breaks lackingTerms (getD sections lacking 0 + lackingB) (getD periods lacking 0) (brokeOf b)
       go (At t) e h = clash cc
-      go (Missing v) e h = bound-breaks lackingTerms lackingB (getD periods lacking 0) v (getD sections lacking 0) e .1
+      go (Missing v) e h = broke-exactly lackingTerms lackingB (getD periods lacking 0) v (getD sections lacking 0) .0 e .1
 
   -- and it fits into 32 bits
   pub missing-small : GoodSections periods sections homes n → missingValue npp periods sections tops homes n ≤ 130000000
