@@ -6,6 +6,7 @@ use mathlib.Core.Bool.{Bool, true, false, cond, _&&_}
 use lib.Dec.{ltb, eqb}
 use Rattle.lists.specs.First.{first}
 use Rattle.bounds.specs.Demand.{Term, demand}
+use Rattle.bounds.specs.Sequence.{sequence, firstAbove}
 use Rattle.bounds.specs.declared.Bound.{Bound}
 use Rattle.bounds.specs.declared.Bound.the-variants.{At, Missing}
 
@@ -13,25 +14,30 @@ use Rattle.bounds.specs.declared.Bound.the-variants.{At, Missing}
 abbrev pub meets : List Term → ℕ → ℕ → Bool
 meets terms own t = ltb 0 t && eqb (own + demand terms t) t
 
--- "the least t ≥ 1 for which [the demand] equals t", if it is at most the limit
+-- "the least t ≥ 1 for which [the demand] equals t", if it is at most the limit; "Where a bound is missing the search answers the value that
+-- broke the limit: the first member above it"
 unfoldable pub least : List Term → ℕ → ℕ → Bound
 least terms own limit =
     cond (ltb limit (first (suc limit) (meets terms own)))
-    Missing
+    (Missing (sequence terms own (firstAbove terms own limit)))
     (At (first (suc limit) (meets terms own)))
 
 -- the bound of a length: 0 for none, "S is 0 without a section", "A stage of table length 0 has bound 0"
 unfoldable pub boundOf : List Term → ℕ → ℕ → ℕ → Bound
 boundOf terms len blocking limit = cond (eqb len 0) (At 0) (least terms (len + blocking) limit)
 
--- what an answer says: that there is no bound, and the bound, 0 for none
+-- what an answer says: that there is no bound; the bound, 0 for none; and the value that broke the limit, 0 if none did
 abbrev pub isMissing : Bound → Bool
 isMissing (At t) = false
-isMissing Missing = true
+isMissing (Missing v) = true
 
 abbrev pub timeOf : Bound → ℕ
 timeOf (At t) = t
-timeOf Missing = 0
+timeOf (Missing v) = 0
+
+abbrev pub brokeOf : Bound → ℕ
+brokeOf (At t) = 0
+brokeOf (Missing v) = v
 
 -- t is the least time of at least 1 that covers what is asked for within it, and it is just that much
 pub record Least (terms : List Term) (own t : ℕ) : Type 0 where

@@ -1,3 +1,4 @@
 pub mod Demand
 pub mod Terms
+pub mod Sequence
 pub mod Bound

@@ -7,10 +7,10 @@ ghost use Rattle.bounds.specs.Demand.{ceil, demand as Demand·demand, Go
 ghost use Rattle.bounds.specs.Terms.{termsIn, lane};
 ghost use Rattle.bounds.specs.Bound.{least as Bound·least, boundOf};
 
-// A bound, or that there is none up to the limit.
+// A bound, or, where there is none up to the limit, the value that broke it.
 pub enum Bound {
     At(u32),
-    Missing,
+    Missing(u32),
 }
 
 // What a term asks for within t: its length once, as long as t is within one period.
@@ -38,7 +38,8 @@ fn demand(period: &[u32], len: &[u32], n: usize, own: u32, t: u32) -> u32
     sum
 }
 
-// The least t that is what is asked for within it: each t tried is what is asked for within the one before.
+// The least t that is what is asked for within it, or the first t tried that is above the limit: each t tried is what is asked for within
+// the one before.
 fn least(period: &[u32], len: &[u32], n: usize, own: u32, limit: u32) -> Bound
     requires { ⌜ (n ≤ 64) × (n ≤ length (now period)) × (n ≤ length (now len)) × (1 ≤ own) × (own ≤ 2000000) × (limit ≤ 1000000) × GoodTerms (termsIn (now period) (now len) n) ⌝ }
     ensures { λ r. ⌜ r ≡ Bound·least (termsIn (now (period .entry)) (now (len .entry)) n) own limit ⌝ }
@@ -51,7 +52,7 @@ fn least(period: &[u32], len: &[u32], n: usize, own: u32, limit: u32) -> Bound
         }
         t = asked;
     }
-    Bound::Missing
+    Bound::Missing(t)
 }
 
 // The bound of a length that something may block, among the terms in the first n places.

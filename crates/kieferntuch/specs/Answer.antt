@@ -4,20 +4,20 @@ use mathlib.Core.Bool.{Bool, cond}
 use lib.Dec.{ltb}
 use Rattle.table.specs.declared.Reading.{Reading}
 use Rattle.plan.specs.declared.Outcome.{Outcome}
-use Rattle.plan.specs.Trial.{numberOf, namesOf, markOf}
+use Rattle.plan.specs.Trial.{numberOf, namesOf, markOf, valueOf}
 use Rattle.plan.specs.Planning.{plannedOf}
 use Rattle.kieferntuch.specs.declared.Answer.{Answer}
 
-abbrev pub answer : ℕ → ℕ → ℕ → Answer
-answer number names mark = record { number = number; names = names; mark = mark }
+abbrev pub answer : ℕ → ℕ → ℕ → ℕ → Answer
+answer number names mark value = record { number = number; names = names; mark = mark; value = value }
 
--- what a reading answers: "Mark is 0 but for 11"
+-- what a reading answers: "Mark is 0 but for 11", and so is the value
 abbrev pub answerOf : Reading → Answer
-answerOf r = answer (r .number) (r .names) 0
+answerOf r = answer (r .number) (r .names) 0 0
 
 -- what an outcome of planning answers
 abbrev pub outcomeAnswer : Outcome → Answer
-outcomeAnswer o = answer (numberOf o) (namesOf o) (markOf o)
+outcomeAnswer o = answer (numberOf o) (namesOf o) (markOf o) (valueOf o)
 
 -- 10: "sheet has fewer than at + 12 + 9n bytes"
 abbrev pub short : ℕ → ℕ → ℕ → Bool
@@ -28,4 +28,4 @@ unfoldable pub planAnswer : Reading → ℕ → ℕ → Answer
 planAnswer r at size =
     cond (ltb 0 (r .number))
     (answerOf r)
-    (cond (short size at (r .table .n)) (answer 10 0 0) (outcomeAnswer (plannedOf (r .table) .outcome)))
+    (cond (short size at (r .table .n)) (answer 10 0 0 0) (outcomeAnswer (plannedOf (r .table) .outcome)))

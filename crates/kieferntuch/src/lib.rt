@@ -14,22 +14,24 @@ use plan::Outcome;
 use plan::Plan;
 use run::Ran;
 
-// The number of the refusal, 0 if there is none, what it names, and its mark.
+// The number of the refusal, 0 if there is none, what it names, its mark, and its value.
 #[repr(C)]
 pub struct Answer {
     pub number: u32,
     pub names: u32,
     pub mark: u32,
+    pub value: u32,
 }
 
-// An answer of these three numbers.
-fn reply(number: u32, names: u32, mark: u32) -> Answer
-    ensures { λ r. ⌜ r ≡ Answer·answer number names mark ⌝ }
+// An answer of these four numbers.
+fn reply(number: u32, names: u32, mark: u32, value: u32) -> Answer
+    ensures { λ r. ⌜ r ≡ Answer·answer number names mark value ⌝ }
 {
     Answer {
         number,
         names,
         mark,
+        value,
     }
 }
 
@@ -39,7 +41,7 @@ pub extern "C" fn kieferntuch_read(table: &[u8]) -> Answer
     ensures { λ r. ⌜ r ≡ answerOf (readingOf (now (table .entry))) ⌝ }
 {
     let reading = table::read_table(table);
-    reply(reading.number, reading.names, 0)
+    reply(reading.number, reading.names, 0, 0)
 }
 
 // Whether a sheet of this size has room for a plan of n rows from byte at on, whatever at is.
@@ -83,20 +85,20 @@ pub extern "C" fn kieferntuch_plan(table: &[u8], at: usize, sheet: &mut [u8]) ->
 {
     let r = table::read_table(table);
     if r.number > 0 {
-        return reply(r.number, r.names, 0);
+        return reply(r.number, r.names, 0, 0);
     }
     let t = r.table;
     if !has_room(sheet.len(), at, t.n) {
-        return reply(10, 0, 0);
+        return reply(10, 0, 0, 0);
     }
     let tried = plan::plan_table(t);
     let outcome = tried.outcome;
-    if let Outcome::Failed(row, mark) = outcome {
-        return reply(11, row, mark);
+    if let Outcome::Failed(row, mark, value) = outcome {
+        return reply(11, row, mark, value);
     }
     let p = tried.plan;
     write_at(sheet, at, t.n, t.m, p);
-    reply(0, 0, 0)
+    reply(0, 0, 0, 0)
 }
 
 // Room for the numbers of 4,096 arrivals.

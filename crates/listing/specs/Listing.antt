@@ -9,7 +9,7 @@ use Rattle.table.specs.declared.Table.{Table}
 use Rattle.table.specs.declared.Reading.{Reading}
 use Rattle.plan.specs.declared.Plan.{Plan}
 use Rattle.plan.specs.declared.Outcome.{Outcome}
-use Rattle.plan.specs.Trial.{numberOf, namesOf, markOf}
+use Rattle.plan.specs.Trial.{numberOf, namesOf, markOf, valueOf}
 use Rattle.plan.specs.Planning.{plannedOf}
 use Rattle.listing.specs.Text.{line}
 
@@ -26,9 +26,9 @@ taskWord = 116 ∷ 97 ∷ 115 ∷ 107 ∷ []
 abbrev refusedWord : List ℕ
 refusedWord = 114 ∷ 101 ∷ 102 ∷ 117 ∷ 115 ∷ 101 ∷ 100 ∷ []
 
--- "A refusal prints one line: refused, number, what it names, mark."
-unfoldable pub refusedLine : ℕ → ℕ → ℕ → List ℕ
-refusedLine number names mark = line refusedWord (number ∷ names ∷ mark ∷ [])
+-- "A refusal prints one line: refused, number, what it names, mark", and it "ends with the value, 0 for every other number" than 11
+unfoldable pub refusedLine : ℕ → ℕ → ℕ → ℕ → List ℕ
+refusedLine number names mark value = line refusedWord (number ∷ names ∷ mark ∷ value ∷ [])
 
 -- plan: n, m, s
 unfoldable pub planLine : ℕ → ℕ → ℕ → List ℕ
@@ -52,16 +52,16 @@ unfoldable pub planText : ℕ → ℕ → ℕ → List ℕ → List ℕ → List
 planText n m s serves processors d1s sections d2s =
     (planLine n m s ++ resourceLines serves 16) ++ joined n (taskLine processors d1s sections d2s)
 
--- what comes of planning a table: the text of the plan, or refusal 11 with the row and the mark of the last trial
+-- what comes of planning a table: the text of the plan, or refusal 11 with the row, the mark and the value of the last trial
 unfoldable pub outcomeText : Table → Plan → Outcome → List ℕ
 outcomeText t p o =
     cond (ltb 0 (numberOf o))
-    (refusedLine (numberOf o) (namesOf o) (markOf o))
+    (refusedLine (numberOf o) (namesOf o) (markOf o) (valueOf o))
     (planText (t .n) (t .m) (p .s) (p .serves) (p .processor) (p .d1) (p .section) (p .d2))
 
 -- what the program says of any bytes, by what they say as a table
 unfoldable pub listingOf : Reading → List ℕ
 listingOf r =
     cond (ltb 0 (r .number))
-    (refusedLine (r .number) (r .names) 0)
+    (refusedLine (r .number) (r .names) 0 0)
     (outcomeText (r .table) (plannedOf (r .table) .plan) (plannedOf (r .table) .outcome))

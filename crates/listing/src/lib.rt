@@ -102,11 +102,11 @@ fn put_line(out: &mut [u8], at: usize, word: &[u8], numbers: &[u32]) -> usize
 }
 
 // Writes the refused line at the start.
-fn put_refused(out: &mut [u8], number: u32, names: u32, mark: u32) -> usize
-    requires { ⌜ 41 ≤ length (now out) ⌝ }
-    ensures { λ r. ⌜ Wrote (now (out .entry)) 0 (now (out .exit)) r (refusedLine number names mark) × (r ≤ 41) ⌝ }
+fn put_refused(out: &mut [u8], number: u32, names: u32, mark: u32, value: u32) -> usize
+    requires { ⌜ 52 ≤ length (now out) ⌝ }
+    ensures { λ r. ⌜ Wrote (now (out .entry)) 0 (now (out .exit)) r (refusedLine number names mark value) × (r ≤ 52) ⌝ }
 {
-    let numbers = [number, names, mark];
+    let numbers = [number, names, mark, value];
     put_line(out, 0, b"refused", &numbers)
 }
 
@@ -195,13 +195,13 @@ pub fn write_listing(bytes: &[u8], out: &mut [u8; 8192]) -> usize
 {
     let r = table::read_table(bytes);
     if r.number > 0 {
-        return put_refused(out, r.number, r.names, 0);
+        return put_refused(out, r.number, r.names, 0, 0);
     }
     let t = r.table;
     let tried = plan::plan_table(t);
     let outcome = tried.outcome;
-    if let Outcome::Failed(row, mark) = outcome {
-        return put_refused(out, 11, row, mark);
+    if let Outcome::Failed(row, mark, value) = outcome {
+        return put_refused(out, 11, row, mark, value);
     }
     let p = tried.plan;
     let serves = p.serves;

@@ -13,7 +13,7 @@ use Rattle.plan.specs.Trial.{trialOf}
 -- whether there is a plan
 abbrev pub isPlanned : Outcome → Bool
 isPlanned Planned = true
-isPlanned (Failed row mark) = false
+isPlanned (Failed row mark value) = false
 
 module _ (t : Tasks) where
   -- "If u is 0 there is one trial, with 0 synchronization processors. Otherwise trials run with 1, 2, .. up to the smaller of m − 1 and u."

@@ -18,26 +18,30 @@ use Rattle.plan.specs.declared.Outcome.the-variants.{Planned, Failed}
 use Rattle.plan.specs.declared.Tried.{Tried}
 use Rattle.plan.specs.Tasks.{ofResource}
 
--- what an outcome answers: the paper's number, what it names, and its mark
+-- what an outcome answers: the paper's number, what it names, its mark, and its value
 unfoldable pub numberOf : Outcome → ℕ
 numberOf Planned = 0
-numberOf (Failed row mark) = 11
+numberOf (Failed row mark value) = 11
 
 unfoldable pub namesOf : Outcome → ℕ
 namesOf Planned = 0
-namesOf (Failed row mark) = row
+namesOf (Failed row mark value) = row
 
 unfoldable pub markOf : Outcome → ℕ
 markOf Planned = 0
-markOf (Failed row mark) = mark
+markOf (Failed row mark value) = mark
+
+unfoldable pub valueOf : Outcome → ℕ
+valueOf Planned = 0
+valueOf (Failed row mark value) = value
 
 -- a plan of zeros
 abbrev pub noPlan : Plan
 noPlan = record { s = 0; serves = blank 17 0; processor = blank 64 0; d1 = blank 64 0; section = blank 64 0; d2 = blank 64 0 }
 
--- "A trial that ends without a plan hands back the task and the mark."
-abbrev pub failed : ℕ → ℕ → Tried
-failed row mark = record { outcome = Failed row mark; plan = noPlan }
+-- "A trial that ends without a plan hands back the task and the mark", and the value: "Refusal 11 carries it"
+abbrev pub failed : ℕ → ℕ → ℕ → Tried
+failed row mark value = record { outcome = Failed row mark value; plan = noPlan }
 
 -- a trial that ends with this plan
 abbrev pub planned : Plan → Tried
@@ -76,7 +80,7 @@ module _ (t : Tasks) (s : ℕ) where
   unfoldable pub trialOf : Tried
   trialOf =
       cond (ltb (sections .missing) (t .n))
-      (failed (getD (t .row) (sections .missing) 0) 1)
+      (failed (getD (t .row) (sections .missing) 0) 1 (sections .value))
       (cond (ltb (stages .nowhere) (t .n))
-      (failed (getD (t .row) (stages .nowhere) 0) 2)
+      (failed (getD (t .row) (stages .nowhere) 0) 2 (stages .value))
       (planned (planBy t s serves (sections .bound) stages)))

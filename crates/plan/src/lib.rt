@@ -45,10 +45,10 @@ pub struct Plan {
     pub d2: [u32; 64],
 }
 
-// That a trial succeeds, or the row and the mark that it fails with.
+// That a trial succeeds, or the row, the mark and the value that it fails with.
 pub enum Outcome {
     Planned,
-    Failed(u32, u32),
+    Failed(u32, u32, u32),
 }
 
 // A trial's answer: its outcome, and the plan, all 0 where it failed.
@@ -130,9 +130,9 @@ fn tasks_of(t: Table) -> Tasks
     }
 }
 
-// A trial that fails with this row and mark.
-fn failed(row: u32, mark: u32) -> Tried
-    ensures { λ r. ⌜ r ≡ Trial·failed row mark ⌝ }
+// A trial that fails with this row, mark and value.
+fn failed(row: u32, mark: u32, value: u32) -> Tried
+    ensures { λ r. ⌜ r ≡ Trial·failed row mark value ⌝ }
 {
     let zeros = lists::no_column();
     let plan = Plan {
@@ -144,7 +144,7 @@ fn failed(row: u32, mark: u32) -> Tried
         d2: zeros,
     };
     Tried {
-        outcome: Outcome::Failed(row, mark),
+        outcome: Outcome::Failed(row, mark, value),
         plan,
     }
 }
@@ -217,18 +217,18 @@ fn trial(t: Tasks, s: usize) -> Tried
     let found = find_sections(t, processors);
     let missing = found.missing;
     if missing < t.n {
-        return failed(t.row[missing], 1);
+        return failed(t.row[missing], 1, found.value);
     }
     let section = found.bound;
     let placed = find_places(t, section, s);
     let nowhere = placed.nowhere;
     if nowhere < t.n {
-        return failed(t.row[nowhere], 2);
+        return failed(t.row[nowhere], 2, placed.value);
     }
     succeeded(t, s, processors, section, placed)
 }
 
-// Trial after trial: the first that succeeds, or the row and the mark of the last one.
+// Trial after trial: the first that succeeds, or the row, the mark and the value of the last one.
 fn plan_tasks(t: Tasks) -> Tried
     requires { ⌜ GoodTasks t ⌝ }
     ensures { λ r. ⌜ r ≡ planningOf t ⌝ }
@@ -237,20 +237,22 @@ fn plan_tasks(t: Tasks) -> Tried
     let mut s = smaller(1, t.used);
     let mut row = 0;
     let mut mark = 0;
+    let mut value = 0;
     while s <= last {
         let tried = trial(t, s);
         let outcome = tried.outcome;
-        let Outcome::Failed(r, k) = outcome else {
+        let Outcome::Failed(r, k, v) = outcome else {
             return tried;
         };
         row = r;
         mark = k;
+        value = v;
         s += 1;
     }
-    failed(row, mark)
+    failed(row, mark, value)
 }
 
-// The plan of a table, or the row and the mark of the last trial.
+// The plan of a table, or the row, the mark and the value of the last trial.
 pub fn plan_table(t: Table) -> Tried
     requires { ⌜ GoodTable t ⌝ }
     ensures { λ r. ⌜ r ≡ plannedOf t ⌝ }

@@ -8,7 +8,7 @@ use Rattle.table.specs.declared.Table.{Table}
 use Rattle.table.specs.declared.Reading.{Reading}
 use Rattle.plan.specs.declared.Tried.{Tried}
 use Rattle.plan.specs.declared.Plan.{Plan}
-use Rattle.plan.specs.Trial.{numberOf, namesOf, markOf}
+use Rattle.plan.specs.Trial.{numberOf, namesOf, markOf, valueOf}
 use Rattle.plan.specs.Planning.{plannedOf}
 use Rattle.arrivals.specs.declared.Arrival.{Arrival}
 use Rattle.arrivals.specs.declared.Heard.{Heard}
@@ -43,21 +43,21 @@ callNames t xs f w size =
 unfoldable pub callAnswer : Table → Plan → List Arrival → ℕ → ℕ → ℕ → Ran
 callAnswer t p xs f w size =
     cond (ltb 0 (callNumber t xs f w size))
-    (refused (callNumber t xs f w size) (callNames t xs f w size) 0)
+    (refused (callNumber t xs f w size) (callNames t xs f w size) 0 0)
     (steppedOf (chartOf t p) xs f w)
 
 -- 11: "every trial failed"
 unfoldable pub tableAnswer : Table → Tried → List Arrival → ℕ → ℕ → ℕ → Ran
 tableAnswer t tried xs f w size =
     cond (ltb 0 (numberOf (tried .outcome)))
-    (refused (numberOf (tried .outcome)) (namesOf (tried .outcome)) (markOf (tried .outcome)))
+    (refused (numberOf (tried .outcome)) (namesOf (tried .outcome)) (markOf (tried .outcome)) (valueOf (tried .outcome)))
     (callAnswer t (tried .plan) xs f w size)
 
 -- what a call answers: "The lowest number wins"
 unfoldable pub runAnswer : Reading → List Arrival → ℕ → ℕ → ℕ → Ran
 runAnswer r xs f w size =
     cond (ltb 0 (r .number))
-    (refused (r .number) (r .names) 0)
+    (refused (r .number) (r .names) 0 0)
     (tableAnswer (r .table) (plannedOf (r .table)) xs f w size)
 
 -- "Nothing lent changes on refusal, except that 19 leaves the m × w trace bytes zero."

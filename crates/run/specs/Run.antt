@@ -15,12 +15,12 @@ use Rattle.machine.specs.Counts.{tallyOf}
 pub use Rattle.run.specs.declared.Ran.{Ran}
 
 -- "All else that a refused call returns is 0"
-abbrev pub refused : ℕ → ℕ → ℕ → Ran
-refused number names mark = record { number = number; names = names; mark = mark; worst = blank 192 0; jobs = 0; run = 0; owed = 0 }
+abbrev pub refused : ℕ → ℕ → ℕ → ℕ → Ran
+refused number names mark value = record { number = number; names = names; mark = mark; value = value; worst = blank 192 0; jobs = 0; run = 0; owed = 0 }
 
 -- an answer without refusal
 abbrev pub done : List ℕ → Tally → Ran
-done worst tally = record { number = 0; names = 0; mark = 0; worst = worst; jobs = tally .jobs; run = tally .run; owed = tally .owed }
+done worst tally = record { number = 0; names = 0; mark = 0; value = 0; worst = worst; jobs = tally .jobs; run = tally .run; owed = tally .owed }
 
 module _ (c : Chart) (xs : List Arrival) where
   -- a release comes too early in tick t
@@ -39,7 +39,7 @@ module _ (c : Chart) (xs : List Arrival) where
   unfoldable pub steppedOf : ℕ → ℕ → Ran
   steppedOf f w =
       cond (ltb (lateTick (f + w)) (f + w))
-      (refused 19 (suc (lateAt c (brings xs) (lateTick (f + w)))) 0)
+      (refused 19 (suc (lateAt c (brings xs) (lateTick (f + w)))) 0 0)
       (done (worstAt c (brings xs) (f + w)) (tallyOf (c .n) (jobsAt c (brings xs) (f + w))))
 
   -- the trace: "Bytes past m × w are untouched"; "19 leaves the m × w trace bytes zero"

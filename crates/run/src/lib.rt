@@ -19,13 +19,14 @@ use machine::Reached;
 use plan::Outcome;
 use table::Table;
 
-// The number of the refusal, 0 if there is none, what it names, and its mark; the worst response of each of the three stages of
-// each row; jobs ended, units run and units owed.
+// The number of the refusal, 0 if there is none, what it names, its mark, and its value; the worst response of each of the three stages
+// of each row; jobs ended, units run and units owed.
 #[repr(C)]
 pub struct Ran {
     pub number: u32,
     pub names: u32,
     pub mark: u32,
+    pub value: u32,
     pub worst: [u32; 192],
     pub jobs: u64,
     pub run: u64,
@@ -33,13 +34,14 @@ pub struct Ran {
 }
 
 // A refusal: all else is 0.
-fn refused(number: u32, names: u32, mark: u32) -> Ran
-    ensures { λ r. ⌜ r ≡ Run·refused number names mark ⌝ }
+fn refused(number: u32, names: u32, mark: u32, value: u32) -> Ran
+    ensures { λ r. ⌜ r ≡ Run·refused number names mark value ⌝ }
 {
     Ran {
         number,
         names,
         mark,
+        value,
         worst: machine::no_threes(),
         jobs: 0,
         run: 0,
@@ -227,7 +229,7 @@ fn run_ticks(
     );
     if before.late < n {
         wipe(trace, size);
-        return refused(19, before.late as u32 + 1, 0);
+        return refused(19, before.late as u32 + 1, 0, 0);
     }
     let after = play(
         c,
@@ -244,13 +246,14 @@ fn run_ticks(
     );
     if after.late < n {
         wipe(trace, size);
-        return refused(19, after.late as u32 + 1, 0);
+        return refused(19, after.late as u32 + 1, 0, 0);
     }
     let tally = machine::count_up(&jobs, n);
     Ran {
         number: 0,
         names: 0,
         mark: 0,
+        value: 0,
         worst,
         jobs: tally.jobs,
         run: tally.run,
@@ -302,17 +305,17 @@ pub fn run_flat(
 {
     let r = table::read_table(table);
     if r.number > 0 {
-        return refused(r.number, r.names, 0);
+        return refused(r.number, r.names, 0, 0);
     }
     let t = r.table;
     let tried = plan::plan_table(t);
     let outcome = tried.outcome;
-    if let Outcome::Failed(row, mark) = outcome {
-        return refused(11, row, mark);
+    if let Outcome::Failed(row, mark, value) = outcome {
+        return refused(11, row, mark, value);
     }
     let call = check_call(t, flat, count, from, ticks, trace.len());
     if call.number > 0 {
-        return refused(call.number, call.position, 0);
+        return refused(call.number, call.position, 0, 0);
     }
     let p = tried.plan;
     let c = machine::chart_of(t, p);

@@ -8,9 +8,11 @@ ghost use Rattle.sections.specs.Section.{sectionsOf};
 ghost use Rattle.sections.specs.Good.{GoodSections};
 use bounds::Bound;
 
-// The bound of each task's section, in rank order, up to the first task that has none: n if each has one.
+// The bound of each task's section, in rank order, up to the first task that has none, and the value that broke its limit: n and 0 if each
+// has one.
 pub struct Sections {
     pub missing: usize,
+    pub value: u32,
     pub bound: [u32; 64],
 }
 
@@ -89,10 +91,16 @@ pub fn section_bounds(
         let p = home[k] as usize;
         let b = blocking(npp, section, top, home, n, k);
         let found = bounds::bound_on(&periods, &lens, &count, p, section[k], b, period[k]);
-        let Bound::At(t) = found else {
-            return Sections { missing: k, bound };
-        };
-        bound[k] = t;
+        match found {
+            Bound::At(t) => bound[k] = t,
+            Bound::Missing(value) => {
+                return Sections {
+                    missing: k,
+                    value,
+                    bound,
+                };
+            }
+        }
         bounds::add_term(
             &mut periods,
             &mut lens,
@@ -103,5 +111,9 @@ pub fn section_bounds(
         );
         k += 1;
     }
-    Sections { missing: n, bound }
+    Sections {
+        missing: n,
+        value: 0,
+        bound,
+    }
 }

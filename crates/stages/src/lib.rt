@@ -1,6 +1,7 @@
 // The bounds of stages, and first fit.
 ghost use mathlib.Core.Path.{_≡_};
-ghost use Prim.Native.Nat.{ℕ, _<_, _≤_};
+ghost use mathlib.Core.Bool.{cond};
+ghost use Prim.Native.Nat.{ℕ, _<_, _≤_, min};
 ghost use lib.ListN.{length, getD};
 ghost use Rattle.bounds.specs.Demand.{GoodTerms};
 ghost use Rattle.bounds.specs.Terms.{lane};
@@ -9,21 +10,23 @@ ghost use Rattle.stages.specs.Stage.{stagesOf};
 ghost use Rattle.stages.specs.Good.{GoodStages};
 use bounds::Bound;
 
-// The bounds D1 and D2 of a task on a processor, or that it does not fit there.
+// The bounds D1 and D2 of a task on a processor, or the value that keeps it from fitting there.
 enum Fit {
     Fits(u32, u32),
-    Not,
+    Not(u32),
 }
 
-// A task's processor, D1 and D2, or that it fits none.
+// A task's processor, D1 and D2, or the smallest of the values that keep it from fitting any.
 enum Place {
     On(u32, u32, u32),
-    Nowhere,
+    Nowhere(u32),
 }
 
-// The processor, D1 and D2 of each task, in rank order, up to the first task that fits no processor: n if each fits one.
+// The processor, D1 and D2 of each task, in rank order, up to the first task that fits no processor, and the value that goes with that: n and
+// 0 if each fits one.
 pub struct Stages {
     pub nowhere: usize,
+    pub value: u32,
     pub processor: [u32; 64],
     pub d1: [u32; 64],
     pub d2: [u32; 64],
@@ -45,20 +48,33 @@ fn fit_on(
 {
     let limit = period - section;
     let first = bounds::bound_on(periods, lens, count, p, c1, 0, limit);
-    let Bound::At(d1) = first else {
-        return Fit::Not;
+    let d1 = match first {
+        Bound::At(t) => t,
+        Bound::Missing(v) => return Fit::Not(v),
     };
     let second = bounds::bound_on(periods, lens, count, p, c2, 0, limit);
-    let Bound::At(d2) = second else {
-        return Fit::Not;
+    let d2 = match second {
+        Bound::At(t) => t,
+        Bound::Missing(v) => return Fit::Not(v),
     };
-    if d1 + section + d2 > period {
-        return Fit::Not;
+    let sum = d1 + section + d2;
+    if sum > period {
+        return Fit::Not(sum);
     }
     Fit::Fits(d1, d2)
 }
 
-// The first of processors s + 1 to m that a task fits, beside the terms in its lane.
+// The smaller of a value and the smallest so far; the value itself, where it is the first.
+fn lower(first: bool, value: u32, least: u32) -> u32
+    ensures { λ r. ⌜ r ≡ cond first value (min value least) ⌝ }
+{
+    if first {
+        return value;
+    }
+    lists::smaller(value, least)
+}
+
+// The first of processors s + 1 to m that a task fits, beside the terms in its lane, or the smallest of the values that keep it from that.
 fn first_fit(
     periods: &[u32],
     lens: &[u32],
@@ -74,14 +90,16 @@ fn first_fit(
     ensures { λ r. ⌜ r ≡ placeAmong (λ p. fitAmong (lane (now (periods .entry)) (now (lens .entry)) p (getD (now (count .entry)) p 0)) c1 c2 section period) s m ⌝ }
 {
     let mut p = s + 1;
+    let mut value = 0;
     while p <= m {
         let fit = fit_on(periods, lens, count, p, c1, c2, section, period);
-        if let Fit::Fits(d1, d2) = fit {
-            return Place::On(p as u32, d1, d2);
+        match fit {
+            Fit::Fits(d1, d2) => return Place::On(p as u32, d1, d2),
+            Fit::Not(v) => value = lower(p == s + 1, v, value),
         }
         p += 1;
     }
-    Place::Nowhere
+    Place::Nowhere(value)
 }
 
 // The places of n tasks, in rank order, up to the first that fits no processor.
@@ -107,22 +125,28 @@ pub fn place_tasks(
     let mut k = 0;
     while k < n {
         let place = first_fit(&ps, &ls, &count, s, m, c1[k], c2[k], section[k], period[k]);
-        let Place::On(p, x, y) = place else {
-            return Stages {
-                nowhere: k,
-                processor,
-                d1,
-                d2,
-            };
-        };
-        processor[k] = p;
-        d1[k] = x;
-        d2[k] = y;
-        bounds::add_term(&mut ps, &mut ls, &mut count, p as usize, period[k], work[k]);
+        match place {
+            Place::On(p, x, y) => {
+                processor[k] = p;
+                d1[k] = x;
+                d2[k] = y;
+                bounds::add_term(&mut ps, &mut ls, &mut count, p as usize, period[k], work[k]);
+            }
+            Place::Nowhere(value) => {
+                return Stages {
+                    nowhere: k,
+                    value,
+                    processor,
+                    d1,
+                    d2,
+                };
+            }
+        }
         k += 1;
     }
     Stages {
         nowhere: n,
+        value: 0,
         processor,
         d1,
         d2,

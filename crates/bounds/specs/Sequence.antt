@@ -1,0 +1,23 @@
+-- The values that a search goes through: "the sequence that starts with the length plus B and goes on with the demand at the last value".
+-- `own` is the length plus B; members count from 0.
+use Prim.Native.Nat.{ℕ, zero, suc, _+_, _≤_, _<_}
+use mathlib.Core.Path.{_≡_}
+use mathlib.Core.List.{List}
+use lib.Dec.{ltb}
+use Rattle.lists.specs.First.{first}
+use Rattle.bounds.specs.Demand.{Term, demand}
+
+unfoldable pub sequence : List Term → ℕ → ℕ → ℕ
+sequence terms own zero = own
+sequence terms own (suc i) = own + demand terms (sequence terms own i)
+
+-- the first member above the limit; where no bound is up to the limit, it is one of members 0 to `limit`, since each is larger than the last
+unfoldable pub firstAbove : List Term → ℕ → ℕ → ℕ
+firstAbove terms own limit = first (suc limit) (λ i. ltb limit (sequence terms own i))
+
+-- v is "the value that broke the limit: the first member above it"
+pub record Breaks (terms : List Term) (own limit v : ℕ) : Type 0 where
+  pub place : ℕ
+  pub is : sequence terms own place ≡ v
+  pub above : limit < v
+  pub before : (j : ℕ) → j < place → sequence terms own j ≤ limit
