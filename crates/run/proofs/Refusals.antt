@@ -1,5 +1,5 @@
 -- What every answer of a run keeps: "Mark is 0 but for 11", and so is the value; "All else that a refused call returns is 0".
-use Prim.Native.Nat.{ℕ, suc, _+_}
+use Prim.Native.Nat.{ℕ, _+_}
 use mathlib.Core.Path.{_≡_, refl}
 use mathlib.Core.Bool.{Bool, true, false, cond}
 use mathlib.Core.List.{List}
@@ -8,7 +8,6 @@ use lib.Dec.{ltb}
 use Rattle.table.specs.declared.Reading.{Reading}
 use Rattle.plan.specs.declared.Outcome.{Outcome}
 use Rattle.plan.specs.declared.Outcome.the-variants.{Planned, Failed}
-use Rattle.plan.specs.declared.Plan.{Plan}
 use Rattle.plan.specs.Trial.{numberOf, namesOf, markOf, valueOf}
 use Rattle.plan.specs.Planning.{plannedOf}
 use Rattle.arrivals.specs.declared.Arrival.{Arrival}
