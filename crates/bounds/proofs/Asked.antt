@@ -6,11 +6,11 @@ use mathlib.Core.List.{List, [], _∷_, _++_}
 use native.Mathlib.Omega.{arith}
 use native.Mathlib.Numerals.{add-one}
 use native.Mathlib.Nat.{div-zero, div-mul-le-self, le-div-iff-mul-le, div-lt-iff-lt-mul, mul-le-mul-left, mul-le-mul-right, le-trans, zero-lt-suc, add-le-add, suc-mul}
-use lib.ListN.{getD}
+use lib.ListN.{length, getD}
 use lib.Dec.{eqb}
 use Rattle.lists.specs.Tab.{tab}
 use Rattle.lists.specs.Total.{total}
-use Rattle.bounds.specs.Demand.{Term, ceil, demand}
+use Rattle.bounds.specs.Demand.{Term, ceil, demand, GoodTerms}
 use Rattle.bounds.specs.Terms.{termAt, termsOn, termsIn}
 
 -- a larger number has no smaller quotient
@@ -49,6 +49,14 @@ mono [] h = zero-le
 mono (x ∷ xs) {t} {u} h =
     let q : t + (x .period - 1) ≤ u + (x .period - 1) = omega arith in
     add-le-add (mul-le-mul-right (x .len) (div-mono (x .period) q)) (mono xs h)
+
+-- within a time of at most 1,000,000 a good term asks for at most 2,000,000
+pub demand-le : (xs : List Term) (t : ℕ) → GoodTerms xs → t ≤ 1000000 → demand xs t ≤ 2000000 * length xs
+unfolding demand
+demand-le [] t g h = zero-le
+demand-le (x ∷ xs) t g h =
+    let a = g 0 (omega arith) in
+    omega (arith, share-le t (x .period) (x .len) (a .short), a .period .1, demand-le xs t (λ i l. g (suc i) (omega arith)) h)
 
 -- the demand of terms behind others is added to theirs
 pub demand-append : (xs ys : List Term) (t : ℕ) → demand (xs ++ ys) t ≡ demand xs t + demand ys t

@@ -1,4 +1,5 @@
 pub mod Asked
 pub mod Terms
+pub mod Sequence
 pub mod Search
 pub mod Lanes

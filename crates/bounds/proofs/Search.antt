@@ -1,5 +1,6 @@
--- The least bound, once for every list of terms: what is on the way up to it, and that the definition is the least time that covers.
-use Prim.Native.Nat.{ℕ, zero, suc, _+_, _≤_, _<_}
+-- The least bound, once for every list of terms: the definition is the least time that covers, or the first member of the sequence above the
+-- limit.
+use Prim.Native.Nat.{ℕ, zero, suc, _+_, _≤_, _<_, zero-le}
 use mathlib.Core.Path.{_≡_, refl, sym, ap}
 use mathlib.Core.List.{List}
 use mathlib.Core.Bool.{Bool, true, false, cond}
@@ -7,34 +8,20 @@ use mathlib.Core.Logic.{_↔_, dite}
 use native.Mathlib.Omega.{arith}
 use native.Mathlib.Decide.{decLt}
 use borrow.Author.Tests.{lt-ltb, le-ltb, eq-eqb, ne-eqb, ltb-true, ltb-false, eqb-true}
+use lib.ListN.{length}
 use lib.Dec.{ltb, eqb}
 use Rattle.lists.specs.First.{first}
 use Rattle.lists.proofs.Tests.{clash, not-both, both}
 use Rattle.lists.proofs.First.{first-no, first-yes, first-is, first-none}
-use Rattle.bounds.specs.Demand.{Term, demand}
-use Rattle.bounds.specs.Bound.{meets, least, boundOf, Least, LeastBound, isMissing, timeOf}
+use Rattle.bounds.specs.Demand.{Term, demand, GoodTerms}
+use Rattle.bounds.specs.Sequence.{sequence, firstAbove, Breaks}
+use Rattle.bounds.specs.Bound.{meets, least, boundOf, Least, LeastBound, isMissing, timeOf, brokeOf}
 use Rattle.bounds.specs.declared.Bound.{Bound}
 use Rattle.bounds.specs.declared.Bound.the-variants.{At, Missing}
 use Rattle.bounds.proofs.Asked.{mono}
+use Rattle.bounds.proofs.Sequence.{NoneCovers, breaks-none, breaks-one, above-breaks, breaks-small}
 
 module _ (terms : List Term) (own : ℕ) where
-  -- t is on the way up: it is asked for, and no time that covers is below it
-  pub record Rising (t : ℕ) : Type 0 where
-    pub up : t ≤ own + demand terms t
-    pub under : (u : ℕ) → own + demand terms u ≤ u → t ≤ u
-
-  -- the length and the blocking are on the way up
-  pub rising-own : Rising own
-  rising-own = record { up = omega arith; under = λ u e. omega arith }
-
-  -- and so is what is asked for within t
-  pub rises : (t : ℕ) → Rising t → Rising (own + demand terms t)
-  rises t r =
-      record {
-        up = omega (arith, mono terms (r .up));
-        under = λ u e. omega (arith, mono terms (r .under u e));
-      }
-
   -- a time that is not just what is asked for does not meet it
   meets-no : (t : ℕ) → (own + demand terms t ≡ t → ⊥) → meets terms own t ≡ false
   meets-no zero h = refl
@@ -50,19 +37,20 @@ module _ (terms : List Term) (own : ℕ) where
       let (a, b) = both (ltb 0 t) (eqb (own + demand terms t) t) e in
       (ltb-true 0 t a, eqb-true (own + demand terms t) t b)
 
-  -- a time on the way up that is just what is asked for is the bound
-  pub least-at : (limit t : ℕ) → 1 ≤ t → t ≤ limit → Rising t → own + demand terms t ≡ t → least terms own limit ≡ At t
+  -- a time that is just what is asked for, with none below it that covers, is the bound
+  pub least-at : (limit t : ℕ) → 1 ≤ t → t ≤ limit → ((u : ℕ) → own + demand terms u ≤ u → t ≤ u) → own + demand terms t ≡ t → least terms own limit ≡ At t
   unfolding least
-  least-at limit t s l r e =
-      let q : first (suc limit) (meets terms own) ≡ t = first-is (suc limit) (meets terms own) t (omega arith) (λ j k. meets-no j (λ f. omega (arith, r .under j (omega arith)))) (meets-yes t s e) in
+  least-at limit t s l under e =
+      let q : first (suc limit) (meets terms own) ≡ t = first-is (suc limit) (meets terms own) t (omega arith) (λ j k. meets-no j (λ f. omega (arith, under j (omega arith)))) (meets-yes t s e) in
       rw (q, le-ltb limit t l)
 
-  -- behind a time on the way up that is above the limit there is none
-  pub least-none : (limit t : ℕ) → limit < t → Rising t → least terms own limit ≡ Missing
+  -- where no time up to the limit covers there is none, and one member of the sequence is the first above it
+  pub least-none : (limit v : ℕ) → 1 ≤ own → Breaks terms own limit v → least terms own limit ≡ Missing v
   unfolding least
-  least-none limit t l r =
-      let q : first (suc limit) (meets terms own) ≡ suc limit = first-none (suc limit) (meets terms own) (λ j k. meets-no j (λ f. omega (arith, r .under j (omega arith)))) in
-      rw (q, lt-ltb limit (suc limit) (omega arith))
+  least-none limit v o b =
+      let none = breaks-none terms own limit v b in
+      let q : first (suc limit) (meets terms own) ≡ suc limit = first-none (suc limit) (meets terms own) (λ j k. meets-no j (λ f. none j (omega arith) (omega arith))) in
+      rw (q, lt-ltb limit (suc limit) (omega arith)) (ap Missing (breaks-one terms own limit _ v (above-breaks terms own limit o none) b))
 
   -- below a time that covers there is one that is just what is asked for
   covered : (f u : ℕ) → u ≤ f → own + demand terms u ≤ u → (v : ℕ) × (v ≤ u) × (own + demand terms v ≡ v)
@@ -89,7 +77,7 @@ module _ (terms : List Term) (own : ℕ) where
           (λ b. absurd (not-both (meets-yes v (omega arith) e) (first-no (suc limit) (meets terms own) v b)))
           (λ b. omega arith)
 
-      go : (b : Bool) → ltb limit x ≡ b → cond b Missing (At x) ≡ At t → Least terms own t × (t ≤ limit)
+      go : (b : Bool) → ltb limit x ≡ b → cond b (Missing (sequence terms own (firstAbove terms own limit))) (At x) ≡ At t → Least terms own t × (t ≤ limit)
       go true e h = clash cc
       go false e h =
           let q : x ≡ t = cc in
@@ -97,19 +85,31 @@ module _ (terms : List Term) (own : ℕ) where
           let m = met x (first-yes (suc limit) (meets terms own) (omega arith)) in
           rw (sym q) (record { some = m .0; same = m .1; below = λ u s. lowest u }, l)
 
-  -- where there is none, no time up to the limit covers what is asked for within it
-  pub least-missing : (limit : ℕ) → 1 ≤ own → least terms own limit ≡ Missing → (u : ℕ) → u ≤ limit → own + demand terms u ≤ u → ⊥
+  -- where there is none, what is answered is the first member above the limit
+  least-breaks : (limit v : ℕ) → 1 ≤ own → least terms own limit ≡ Missing v → Breaks terms own limit v
   unfolding least
-  least-missing limit o h u l c = go (ltb limit (first (suc limit) (meets terms own))) refl h
+  least-breaks limit v o h = go (ltb limit (first (suc limit) (meets terms own))) refl h
     where
       x : ℕ
       x = first (suc limit) (meets terms own)
 
-      go : (b : Bool) → ltb limit x ≡ b → cond b Missing (At x) ≡ Missing → ⊥
+      y : ℕ
+      y = sequence terms own (firstAbove terms own limit)
+
+      none : limit < x → NoneCovers terms own limit
+      none l u k c =
+          let (w, a, f) = covered u u (omega arith) c in
+          not-both (meets-yes w (omega arith) f) (first-no (suc limit) (meets terms own) w (omega arith))
+
+      go : (b : Bool) → ltb limit x ≡ b → cond b (Missing y) (At x) ≡ Missing v → Breaks terms own limit v
       go true e h =
-          let (v, k, f) = covered u u (omega arith) c in
-          not-both (meets-yes v (omega arith) f) (first-no (suc limit) (meets terms own) v (omega (arith, ltb-true limit x e)))
+          let q : y ≡ v = cc in
+          rw q at (above-breaks terms own limit o (none (ltb-true limit x e)))
       go false e h = clash cc
+
+  -- "Where a bound is missing the search answers the value that broke the limit", and only there
+  pub missing-exactly : (limit v : ℕ) → 1 ≤ own → (least terms own limit ≡ Missing v) ↔ Breaks terms own limit v
+  missing-exactly limit v o = (least-breaks limit v o, least-none limit v o)
 
 module _ (terms : List Term) (blocking limit t : ℕ) where
   -- the bound of a length of at least 1 is the least time that covers what is asked for within it
@@ -138,12 +138,17 @@ module _ (terms : List Term) (blocking limit t : ℕ) where
   bound-given zero b l = ap At (sym (b .none refl))
   bound-given (suc len) b l =
       let x : Least terms (suc len + blocking) t = b .some (omega arith) in
-      let r : Rising terms (suc len + blocking) t = record { up = omega (arith, x .same); under = λ u c. x .below u (omega arith) c } in
-      rw (ne-eqb (suc len) 0 (λ e. omega arith)) (least-at terms (suc len + blocking) limit t (x .some) l r (x .same))
+      rw (ne-eqb (suc len) 0 (λ e. omega arith)) (least-at terms (suc len + blocking) limit t (x .some) l (λ u c. x .below u (omega arith) c) (x .same))
 
   -- a bound is given exactly when it is at most the limit
   pub bound-exactly : (len : ℕ) → (boundOf terms len blocking limit ≡ At t) ↔ (LeastBound terms len blocking t × (t ≤ limit))
   bound-exactly len = (bound-least len, λ (b, l). bound-given len b l)
+
+  -- where none is given, what is answered is the first member above the limit of the sequence that starts with the length plus B
+  pub bound-breaks : (len : ℕ) → boundOf terms len blocking limit ≡ Missing t → (1 ≤ len) × Breaks terms (len + blocking) limit t
+  unfolding boundOf
+  bound-breaks zero h = clash cc
+  bound-breaks (suc len) h = (omega arith, least-breaks terms (suc len + blocking) limit t (omega arith) (rw (ne-eqb (suc len) 0 (λ e. omega arith)) at h))
 
 -- none is missing exactly when there is one that is at most the limit
 pub bound-there : (terms : List Term) (len blocking limit : ℕ) → (isMissing (boundOf terms len blocking limit) ≡ false) ↔ ((t : ℕ) × LeastBound terms len blocking t × (t ≤ limit))
@@ -156,4 +161,12 @@ bound-there terms len blocking limit = (
     go (At t) e h =
         let (b, l) = bound-least terms blocking limit t len e in
         (t, b, l)
-    go Missing e h = clash cc
+    go (Missing v) e h = clash cc
+
+-- what broke a limit fits into 32 bits, in every good table
+pub broke-small : (terms : List Term) (len blocking limit : ℕ) → GoodTerms terms → length terms ≤ 64 → len ≤ 1000000 → blocking ≤ 1000000 → limit ≤ 1000000 → brokeOf (boundOf terms len blocking limit) ≤ 130000000
+broke-small terms len blocking limit g few a b c = go (boundOf terms len blocking limit) refl
+  where
+    go : (x : Bound) → boundOf terms len blocking limit ≡ x → brokeOf x ≤ 130000000
+    go (At t) e = zero-le
+    go (Missing v) e = breaks-small terms (len + blocking) limit v g few (omega arith) c (bound-breaks terms blocking limit v len e .1)

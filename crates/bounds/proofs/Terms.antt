@@ -1,5 +1,5 @@
 -- Laws of lists of terms.
-use Prim.Native.Nat.{ℕ, zero, suc, _+_, _<_}
+use Prim.Native.Nat.{ℕ, zero, suc, _+_, _≤_, _<_, zero-le}
 use mathlib.Core.Path.{_≡_, refl}
 use mathlib.Core.List.{List, [], _∷_, _++_, append-nil}
 use mathlib.Core.Bool.{Bool, true, false, cond}
@@ -33,6 +33,17 @@ terms-put ps ls n p l h k =
 pub on-more : (ps ls homes : List ℕ) (p k : ℕ) → termsOn ps ls homes p (k + 1) ≡ termsOn ps ls homes p k ++ cond (eqb (getD homes k 0) p) (termAt ps ls k ∷ []) []
 unfolding termsOn
 on-more ps ls homes p k = rw add-one
+
+-- no more terms than tasks
+pub length-on : (ps ls homes : List ℕ) (p k : ℕ) → length (termsOn ps ls homes p k) ≤ k
+unfolding termsOn
+length-on ps ls homes p zero = zero-le
+length-on ps ls homes p (suc k) =
+    omega (arith, length-append (termsOn ps ls homes p k) (cond (eqb (getD homes k 0) p) (termAt ps ls k ∷ []) []), one (eqb (getD homes k 0) p), length-on ps ls homes p k)
+  where
+    one : (b : Bool) → length (cond b (termAt ps ls k ∷ []) []) ≤ 1
+    one true = omega arith
+    one false = omega arith
 
 -- only the homes of the first k tasks tell which of them are on a processor
 pub on-same : (ps ls homes others : List ℕ) (p k : ℕ) → ((i : ℕ) → i < k → getD homes i 0 ≡ getD others i 0) → termsOn ps ls homes p k ≡ termsOn ps ls others p k

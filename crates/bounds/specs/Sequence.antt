@@ -15,9 +15,12 @@ sequence terms own (suc i) = own + demand terms (sequence terms own i)
 unfoldable pub firstAbove : List Term → ℕ → ℕ → ℕ
 firstAbove terms own limit = first (suc limit) (λ i. ltb limit (sequence terms own i))
 
--- v is "the value that broke the limit: the first member above it"
-pub record Breaks (terms : List Term) (own limit v : ℕ) : Type 0 where
+-- t is a member, and none before it is above the limit
+pub record Reached (terms : List Term) (own limit t : ℕ) : Type 0 where
   pub place : ℕ
-  pub is : sequence terms own place ≡ v
-  pub above : limit < v
+  pub is : sequence terms own place ≡ t
   pub before : (j : ℕ) → j < place → sequence terms own j ≤ limit
+
+-- v is "the value that broke the limit: the first member above it"
+abbrev pub Breaks : List Term → ℕ → ℕ → ℕ → Type 0
+Breaks terms own limit v = Reached terms own limit v × (limit < v)

@@ -5,4 +5,5 @@ pub mod Count
 pub mod Sets
 pub mod Joined
 pub mod Largest
+pub mod Smallest
 pub mod Total

@@ -43,23 +43,23 @@ trial-exactly t s = (
 -- the outcome of a trial that passes the test is a plan, and that of one that has none does not pass
 planned-is : (o : Outcome) → isPlanned o ≡ true → o ≡ Planned
 planned-is Planned e = refl
-planned-is (Failed row mark) e = clash cc
+planned-is (Failed row mark value) e = clash cc
 
 not-planned : (o : Outcome) → (o ≡ Planned → ⊥) → isPlanned o ≡ false
 not-planned Planned fail = absurd (fail refl)
-not-planned (Failed row mark) fail = refl
+not-planned (Failed row mark value) fail = refl
 
 -- an outcome with number 0 is a plan,
 pub number-planned : (o : Outcome) → numberOf o ≡ 0 → o ≡ Planned
 unfolding numberOf
 number-planned Planned e = refl
-number-planned (Failed row mark) e = absurd (omega arith)
+number-planned (Failed row mark value) e = absurd (omega arith)
 
 -- and any other has number 11
 pub number-failed : (o : Outcome) → (o ≡ Planned → ⊥) → numberOf o ≡ 11
 unfolding numberOf
 number-failed Planned fail = absurd (fail refl)
-number-failed (Failed row mark) fail = refl
+number-failed (Failed row mark value) fail = refl
 
 -- one of the trials that the paper lists succeeds
 abbrev pub Succeeds : Tasks → Type 0
@@ -103,13 +103,13 @@ module _ (t : Tasks) where
         ap (λ (x : Tried). x .outcome) (first-plan q c (omega arith) f fail) ∙ f,
   )
 
-  -- there is none exactly when every trial fails, and then the row and the mark are those of the last
-  pub none-exactly : 2 ≤ t .m → (row mark : ℕ) → (planningOf t .outcome ≡ Failed row mark) ↔
-      (((s : ℕ) → firstTrial t ≤ s → s ≤ lastTrial t → trialOf t s .outcome ≡ Planned → ⊥) × (trialOf t (lastTrial t) .outcome ≡ Failed row mark))
-  none-exactly h row mark = (
+  -- there is none exactly when every trial fails, and then the row, the mark and the value are those of the last
+  pub none-exactly : 2 ≤ t .m → (row mark value : ℕ) → (planningOf t .outcome ≡ Failed row mark value) ↔
+      (((s : ℕ) → firstTrial t ≤ s → s ≤ lastTrial t → trialOf t s .outcome ≡ Planned → ⊥) × (trialOf t (lastTrial t) .outcome ≡ Failed row mark value))
+  none-exactly h row mark value = (
     (λ e.
         let fail : (s : ℕ) → firstTrial t ≤ s → s ≤ lastTrial t → trialOf t s .outcome ≡ Planned → ⊥ = λ s a b f.
-        let q : Failed row mark ≡ Planned = sym e ∙ plan-exactly h .1 (s, a, b, f) in
+        let q : Failed row mark value ≡ Planned = sym e ∙ plan-exactly h .1 (s, a, b, f) in
         clash cc in
         (fail, sym (last fail) ∙ e)),
     λ (fail, e). last fail ∙ e,

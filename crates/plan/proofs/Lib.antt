@@ -3,3 +3,4 @@ pub mod Trials
 pub mod Covers
 pub mod Exactly
 pub mod Given
+pub mod Broke

@@ -60,12 +60,12 @@ module _ (t : Tasks) (g : GoodTasks t) where
 
 module _ (t : Tasks) (s : ℕ) where
   -- mark 1: the first missing bound ends the trial
-  pub trial-missing : sections t s .missing < t .n → trialOf t s ≡ failed (getD (t .row) (sections t s .missing) 0) 1
+  pub trial-missing : sections t s .missing < t .n → trialOf t s ≡ failed (getD (t .row) (sections t s .missing) 0) 1 (sections t s .value)
   unfolding trialOf
   trial-missing l = rw (lt-ltb (sections t s .missing) (t .n) l)
 
   -- mark 2: the first that fits none does
-  pub trial-nowhere : t .n ≤ sections t s .missing → stages t s .nowhere < t .n → trialOf t s ≡ failed (getD (t .row) (stages t s .nowhere) 0) 2
+  pub trial-nowhere : t .n ≤ sections t s .missing → stages t s .nowhere < t .n → trialOf t s ≡ failed (getD (t .row) (stages t s .nowhere) 0) 2 (stages t s .value)
   unfolding trialOf
   trial-nowhere h l = rw (le-ltb (sections t s .missing) (t .n) h, lt-ltb (stages t s .nowhere) (t .n) l)
 
@@ -77,30 +77,30 @@ module _ (t : Tasks) (s : ℕ) where
   -- a trial that succeeds has a bound for each section and a place for each task
   pub trial-whole : trialOf t s .outcome ≡ Planned → (t .n ≤ sections t s .missing) × (t .n ≤ stages t s .nowhere)
   trial-whole e =
-      dite (decLt (sections t s .missing) (t .n)) (λ l. absurd (never (getD (t .row) (sections t s .missing) 0) 1 (trial-missing l)))
-      (λ h. dite (decLt (stages t s .nowhere) (t .n)) (λ l. absurd (never (getD (t .row) (stages t s .nowhere) 0) 2 (trial-nowhere (omega arith) l)))
+      dite (decLt (sections t s .missing) (t .n)) (λ l. absurd (never (getD (t .row) (sections t s .missing) 0) 1 (sections t s .value) (trial-missing l)))
+      (λ h. dite (decLt (stages t s .nowhere) (t .n)) (λ l. absurd (never (getD (t .row) (stages t s .nowhere) 0) 2 (stages t s .value) (trial-nowhere (omega arith) l)))
       (λ k. (omega arith, omega arith)))
     where
-      never : (row mark : ℕ) → trialOf t s ≡ failed row mark → ⊥
-      never row mark h =
-          let q : Planned ≡ Failed row mark = sym e ∙ ap (λ (x : Tried). x .outcome) h in
+      never : (row mark value : ℕ) → trialOf t s ≡ failed row mark value → ⊥
+      never row mark value h =
+          let q : Planned ≡ Failed row mark value = sym e ∙ ap (λ (x : Tried). x .outcome) h in
           clash cc
 
-  -- a trial that fails hands back the row and the mark, and nothing else
-  pub trial-failed : (row mark : ℕ) → trialOf t s .outcome ≡ Failed row mark → trialOf t s ≡ failed row mark
+  -- a trial that fails hands back the row, the mark and the value, and nothing else
+  pub trial-failed : (row mark value : ℕ) → trialOf t s .outcome ≡ Failed row mark value → trialOf t s ≡ failed row mark value
   unfolding trialOf
-  trial-failed row mark e = go (ltb (sections t s .missing) (t .n)) (ltb (stages t s .nowhere) (t .n)) e
+  trial-failed row mark value e = go (ltb (sections t s .missing) (t .n)) (ltb (stages t s .nowhere) (t .n)) e
     where
       x : Tried
-      x = failed (getD (t .row) (sections t s .missing) 0) 1
+      x = failed (getD (t .row) (sections t s .missing) 0) 1 (sections t s .value)
 
       y : Tried
-      y = failed (getD (t .row) (stages t s .nowhere) 0) 2
+      y = failed (getD (t .row) (stages t s .nowhere) 0) 2 (stages t s .value)
 
       z : Tried
       z = planned (planBy t s (serves t s) (sections t s .bound) (stages t s))
 
-      go : (a b : Bool) → cond a x (cond b y z) .outcome ≡ Failed row mark → cond a x (cond b y z) ≡ failed row mark
+      go : (a b : Bool) → cond a x (cond b y z) .outcome ≡ Failed row mark value → cond a x (cond b y z) ≡ failed row mark value
       go true b e = cc
       go false true e = cc
       go false false e = clash cc

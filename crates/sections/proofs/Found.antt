@@ -1,10 +1,12 @@
 -- The bounds of sections, task by task.
 use Prim.Native.Nat.{ℕ, _+_, _≤_, _<_}
-use mathlib.Core.Path.{_≡_, refl, sym}
+use mathlib.Core.Path.{_≡_, refl, sym, ap}
 use mathlib.Core.List.{List}
-use mathlib.Core.Bool.{Bool, true, false}
+use mathlib.Core.Bool.{Bool, false}
 use mathlib.Core.Logic.{_↔_}
+use native.Mathlib.Omega.{arith}
 use borrow.Author.Count.{below-more}
+use borrow.Author.Tests.{lt-ltb, le-ltb}
 use lib.ListN.{getD, set}
 use Rattle.lists.specs.Tab.{filled}
 use Rattle.lists.proofs.Tests.{clash}
@@ -17,7 +19,7 @@ use Rattle.bounds.specs.declared.Bound.the-variants.{At, Missing}
 use Rattle.bounds.proofs.Search.{bound-least, bound-there}
 use Rattle.bounds.proofs.Lanes.{Lanes}
 use Rattle.sections.specs.Blocking.{blockingOf}
-use Rattle.sections.specs.Section.{sectionBound, firstMissing, sectionsOf}
+use Rattle.sections.specs.Section.{sectionBound, firstMissing, missingValue, sectionsOf}
 
 module _ (npp : Bool) (periods sections tops homes : List ℕ) (n : ℕ) where
   -- the bounds of the first k tasks
@@ -43,20 +45,19 @@ module _ (npp : Bool) (periods sections tops homes : List ℕ) (n : ℕ) where
   pub found-more : (k : ℕ) → Found k → isMissing (sectionBound npp periods sections tops homes n k) ≡ false → Found (k + 1)
   found-more k h e = below-more (λ j. isMissing (sectionBound npp periods sections tops homes n j) ≡ false) k h e
 
-  -- what is found up to the first that is missing is the answer
-  ended : (k : ℕ) (bs : List ℕ) → bs ≡ boundsTo k → firstMissing npp periods sections tops homes n ≡ k → record { missing = k; bound = bs } ≡ sectionsOf npp periods sections tops homes n
-  unfolding sectionsOf
-  ended k bs e h = rw (h, e)
-
-  -- the first that is missing ends it
-  pub sections-missing : (k : ℕ) (bs : List ℕ) → k < n → Found k → isMissing (sectionBound npp periods sections tops homes n k) ≡ true → bs ≡ boundsTo k → record { missing = k; bound = bs } ≡ sectionsOf npp periods sections tops homes n
-  unfolding firstMissing
-  sections-missing k bs l f m e = ended k bs e (first-is n (λ k. isMissing (sectionBound npp periods sections tops homes n k)) k l f m)
+  -- the first that is missing ends it, with the value that broke its limit
+  pub sections-missing : (k v : ℕ) (bs : List ℕ) → k < n → Found k → sectionBound npp periods sections tops homes n k ≡ Missing v → bs ≡ boundsTo k → record { missing = k; value = v; bound = bs } ≡ sectionsOf npp periods sections tops homes n
+  unfolding sectionsOf missingValue firstMissing
+  sections-missing k v bs l f m e =
+      let x : firstMissing npp periods sections tops homes n ≡ k = first-is n (λ k. isMissing (sectionBound npp periods sections tops homes n k)) k l f (ap isMissing m) in
+      rw (x, lt-ltb k n l, m, e)
 
   -- and where none is missing, all are found
-  pub sections-all : (bs : List ℕ) → Found n → bs ≡ boundsTo n → record { missing = n; bound = bs } ≡ sectionsOf npp periods sections tops homes n
-  unfolding firstMissing
-  sections-all bs f e = ended n bs e (first-none n (λ k. isMissing (sectionBound npp periods sections tops homes n k)) f)
+  pub sections-all : (bs : List ℕ) → Found n → bs ≡ boundsTo n → record { missing = n; value = 0; bound = bs } ≡ sectionsOf npp periods sections tops homes n
+  unfolding sectionsOf missingValue firstMissing
+  sections-all bs f e =
+      let x : firstMissing npp periods sections tops homes n ≡ n = first-none n (λ k. isMissing (sectionBound npp periods sections tops homes n k)) f in
+      rw (x, le-ltb n n (omega arith), e)
 
   -- a bound that is there is the least that covers, and at most the period
   pub section-least : (k : ℕ) → k < firstMissing npp periods sections tops homes n →
@@ -70,7 +71,7 @@ module _ (npp : Bool) (periods sections tops homes : List ℕ) (n : ℕ) where
       go : (b : Bound) → sectionBound npp periods sections tops homes n k ≡ b → isMissing b ≡ false →
           LeastBound (termsOn periods sections homes (getD homes k 0) k) (getD sections k 0) (blockingOf npp sections tops homes n k) (timeOf b) × (timeOf b ≤ getD periods k 0)
       go (At t) e h = bound-least (termsOn periods sections homes (getD homes k 0) k) (blockingOf npp sections tops homes n k) (getD periods k 0) t (getD sections k 0) e
-      go Missing e h = clash cc
+      go (Missing v) e h = clash cc
 
   -- "It must be at most T": a section's bound is missing unless the least that covers is
   pub section-exactly : (k : ℕ) → (isMissing (sectionBound npp periods sections tops homes n k) ≡ false)

@@ -2,16 +2,17 @@
 use Prim.Native.Nat.{ℕ, zero, suc, _+_, _*_, _≤_, _<_}
 use mathlib.Core.Path.{_≡_, refl, sym, _∙_, ap}
 use mathlib.Core.List.{List}
-use mathlib.Core.Bool.{false}
+use mathlib.Core.Bool.{true, false}
 use mathlib.Core.Logic.{_↔_, dite}
 use native.Mathlib.Omega.{arith}
 use native.Mathlib.Numerals.{add-one}
 use native.Mathlib.Decide.{ℕ-discrete}
 use borrow.Author.Count.{below-more}
+use borrow.Author.Tests.{lt-ltb, le-ltb}
 use lib.ListN.{length, getD, set, length-set}
 use lib.Seq.{getD-set-same, getD-set-other}
 use Rattle.lists.specs.Tab.{blank, filled}
-use Rattle.lists.proofs.Tests.{clash}
+use Rattle.lists.proofs.Tests.{clash, not-both}
 use Rattle.lists.proofs.Tab.{filled-none, filled-next, getD-filled, length-blank}
 use Rattle.lists.proofs.First.{first-no, first-le, first-is, first-none}
 use Rattle.bounds.specs.Demand.{GoodTerm}
@@ -19,9 +20,9 @@ use Rattle.bounds.specs.Terms.{termAt, termsOn, lane}
 use Rattle.bounds.specs.Bound.{LeastBound}
 use Rattle.bounds.proofs.Terms.{on-same}
 use Rattle.bounds.proofs.Lanes.{Lanes, lanes-same, lanes-more}
-use Rattle.stages.specs.Fit.{fitAmong, placeAmong}
+use Rattle.stages.specs.Fit.{fitAmong, isFit, placeAmong}
 use Rattle.stages.specs.Good.{GoodStages}
-use Rattle.stages.specs.Stage.{processorOf, d1Of, d2Of, isNowhere, fitOn, placed, placeOf, firstNowhere, stagesTo, stagesOf}
+use Rattle.stages.specs.Stage.{processorOf, d1Of, d2Of, isNowhere, fitOn, placed, placeOf, firstNowhere, nowhereValue, stagesTo, stagesOf}
 use Rattle.stages.specs.declared.Fit.{Fit}
 use Rattle.stages.specs.declared.Fit.the-variants.{Fits, Not}
 use Rattle.stages.specs.declared.Place.{Place}
@@ -88,20 +89,19 @@ module _ (periods c1s c2s works sections : List ℕ) (s m : ℕ) where
       lanes-more periods works k p c l b (getD-set-same xs k p 0 (omega arith)) e
       (lanes-same periods works (λ i a. sym (getD-set-other xs k i p 0 (λ z. omega arith))) x)
 
-  -- what is held up to the first that fits none is the answer
-  ended : {xs ys zs : List ℕ} (n k : ℕ) → Held k xs ys zs → firstNowhere periods c1s c2s works sections s m n ≡ k → record { nowhere = k; processor = xs; d1 = ys; d2 = zs } ≡ stagesOf periods c1s c2s works sections s m n
-  unfolding stagesOf stagesTo
-  ended n k h e = rw (e, h .processors, h .d1s, h .d2s)
-
-  -- the first that fits none ends it
-  pub stages-nowhere : {xs ys zs : List ℕ} (n k : ℕ) → k < n → Held k xs ys zs → placeOf periods c1s c2s works sections s m k ≡ Nowhere → record { nowhere = k; processor = xs; d1 = ys; d2 = zs } ≡ stagesOf periods c1s c2s works sections s m n
-  unfolding firstNowhere
-  stages-nowhere n k l h e = ended n k h (first-is n (λ k. isNowhere (placeOf periods c1s c2s works sections s m k)) k l (h .so-far) (ap isNowhere e))
+  -- the first that fits none ends it, with its value
+  pub stages-nowhere : {xs ys zs : List ℕ} (n k v : ℕ) → k < n → Held k xs ys zs → placeOf periods c1s c2s works sections s m k ≡ Nowhere v → record { nowhere = k; value = v; processor = xs; d1 = ys; d2 = zs } ≡ stagesOf periods c1s c2s works sections s m n
+  unfolding stagesOf stagesTo nowhereValue firstNowhere
+  stages-nowhere n k v l h e =
+      let x : firstNowhere periods c1s c2s works sections s m n ≡ k = first-is n (λ k. isNowhere (placeOf periods c1s c2s works sections s m k)) k l (h .so-far) (ap isNowhere e) in
+      rw (x, lt-ltb k n l, e, h .processors, h .d1s, h .d2s)
 
   -- and where each fits one, all are held
-  pub stages-all : {xs ys zs : List ℕ} (n : ℕ) → Held n xs ys zs → record { nowhere = n; processor = xs; d1 = ys; d2 = zs } ≡ stagesOf periods c1s c2s works sections s m n
-  unfolding firstNowhere
-  stages-all n h = ended n n h (first-none n (λ k. isNowhere (placeOf periods c1s c2s works sections s m k)) (h .so-far))
+  pub stages-all : {xs ys zs : List ℕ} (n : ℕ) → Held n xs ys zs → record { nowhere = n; value = 0; processor = xs; d1 = ys; d2 = zs } ≡ stagesOf periods c1s c2s works sections s m n
+  unfolding stagesOf stagesTo nowhereValue firstNowhere
+  stages-all n h =
+      let x : firstNowhere periods c1s c2s works sections s m n ≡ n = first-none n (λ k. isNowhere (placeOf periods c1s c2s works sections s m k)) (h .so-far) in
+      rw (x, le-ltb n n (omega arith), h .processors, h .d1s, h .d2s)
 
   -- tasks that are placed later leave a task where it is
   placed-keeps : (n k i : ℕ) → i < k → k ≤ n → getD (placed periods c1s c2s works sections s m n) i 0 ≡ getD (placed periods c1s c2s works sections s m k) i 0
@@ -140,18 +140,17 @@ module _ (periods c1s c2s works sections : List ℕ) (s m : ℕ) where
       )
 
   -- a processor where the task cannot be placed so has no fit
-  not-placed : (k p : ℕ) → s < p → p ≤ m → ((d1 d2 : ℕ) → Placed (placed periods c1s c2s works sections s m k) k p d1 d2 → ⊥) → fitOn periods c1s c2s works sections s m (placed periods c1s c2s works sections s m k) k p ≡ Not
+  not-placed : (k p : ℕ) → s < p → p ≤ m → ((d1 d2 : ℕ) → Placed (placed periods c1s c2s works sections s m k) k p d1 d2 → ⊥) → isFit (fitOn periods c1s c2s works sections s m (placed periods c1s c2s works sections s m k) k p) ≡ false
   not-placed k p a b out = go (fitOn periods c1s c2s works sections s m (placed periods c1s c2s works sections s m k) k p) refl
     where
-      go : (f : Fit) → fitOn periods c1s c2s works sections s m (placed periods c1s c2s works sections s m k) k p ≡ f → f ≡ Not
+      go : (f : Fit) → fitOn periods c1s c2s works sections s m (placed periods c1s c2s works sections s m k) k p ≡ f → isFit f ≡ false
       go (Fits d1 d2) e = absurd (out d1 d2 (fit-placed k p d1 d2 a b .0 e))
-      go Not e = refl
+      go (Not v) e = refl
 
   -- and on one that has no fit it cannot be
-  never-placed : (k p d1 d2 : ℕ) → fitOn periods c1s c2s works sections s m (placed periods c1s c2s works sections s m k) k p ≡ Not → Placed (placed periods c1s c2s works sections s m k) k p d1 d2 → ⊥
+  never-placed : (k p d1 d2 : ℕ) → isFit (fitOn periods c1s c2s works sections s m (placed periods c1s c2s works sections s m k) k p) ≡ false → Placed (placed periods c1s c2s works sections s m k) k p d1 d2 → ⊥
   never-placed k p d1 d2 e x =
-      let q : Not ≡ Fits d1 d2 = sym e ∙ fit-placed k p d1 d2 (x .0) (x .1) .1 x in
-      clash cc
+      not-both (ap isFit (fit-placed k p d1 d2 (x .0) (x .1) .1 x)) e
 
   -- a task goes to "the lowest-numbered application processor that it fits"
   pub place-exactly : (k p d1 d2 : ℕ) → (placeOf periods c1s c2s works sections s m k ≡ On p d1 d2)
@@ -168,12 +167,19 @@ module _ (periods c1s c2s works sections : List ℕ) (s m : ℕ) where
   )
 
   -- and it has no place exactly when it "fits none"
-  pub nowhere-exactly : (k : ℕ) → s < m → (placeOf periods c1s c2s works sections s m k ≡ Nowhere) ↔ ((p d1 d2 : ℕ) → Placed (placed periods c1s c2s works sections s m k) k p d1 d2 → ⊥)
+  pub nowhere-exactly : (k : ℕ) → s < m → (isNowhere (placeOf periods c1s c2s works sections s m k) ≡ true) ↔ ((p d1 d2 : ℕ) → Placed (placed periods c1s c2s works sections s m k) k p d1 d2 → ⊥)
   unfolding placeOf
   nowhere-exactly k l = (
-    (λ h p d1 d2 x. never-placed k p d1 d2 (place-out (fitOn periods c1s c2s works sections s m (placed periods c1s c2s works sections s m k) k) s m h p (x .0) (omega (arith, x .1))) x),
-    λ out. place-none (fitOn periods c1s c2s works sections s m (placed periods c1s c2s works sections s m k) k) s m l (λ p a b. not-placed k p a (omega arith) (out p)),
+    (λ h. out (placeAmong fit s m) refl h),
+    λ none. ap isNowhere (place-none fit s m l (λ p a b. not-placed k p a (omega arith) (none p))),
   )
+    where
+      fit : ℕ → Fit
+      fit = fitOn periods c1s c2s works sections s m (placed periods c1s c2s works sections s m k) k
+
+      out : (x : Place) → placeAmong fit s m ≡ x → isNowhere x ≡ true → (p d1 d2 : ℕ) → Placed (placed periods c1s c2s works sections s m k) k p d1 d2 → ⊥
+      out (On q u v) e h p d1 d2 x = clash cc
+      out (Nowhere v) e h p d1 d2 x = never-placed k p d1 d2 (place-out fit s m v e .0 p (x .0) (omega (arith, x .1))) x
 
   -- each task that has a place is placed so
   pub stages-placed : (n k : ℕ) → n ≤ 64 → k < firstNowhere periods c1s c2s works sections s m n →
@@ -197,4 +203,4 @@ module _ (periods c1s c2s works sections : List ℕ) (s m : ℕ) where
           let (a, b, x, y, z) = place-exactly k p d1 d2 .0 q .0 in
           let o : termsOn periods works (placed periods c1s c2s works sections s m e) p k ≡ termsOn periods works (placed periods c1s c2s works sections s m k) p k = on-same periods works _ _ p k (λ i j. placed-keeps e k i j (omega arith)) in
           (a, b, rw o x, rw o y, z)
-      go Nowhere q h = clash cc
+      go (Nowhere v) q h = clash cc

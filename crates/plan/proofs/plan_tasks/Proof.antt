@@ -1,4 +1,4 @@
--- `plan::plan_tasks` meets its contract. The loop's invariant: no trial before s succeeds, and row and mark are those of the one before s.
+-- `plan::plan_tasks` meets its contract. The loop's invariant: no trial before s succeeds, and row, mark and value are those of the one before s.
 use Prim.Native.Nat.{_+_, _-_, _≤_, _<_}
 use mathlib.Core.Path.{_≡_, sym, _∙_, ap}
 use native.Mathlib.Omega.{arith}
@@ -11,11 +11,11 @@ use Rattle.plan.proofs.plan_tasks.Statement.{statement}
 use Rattle.plan.proofs.plan_tasks.Tie as tie
 
 abbrev Inv-loop : tie.InvT-loop
-Inv-loop t last s₀ row₀ mark₀ s row mark =
-    (firstTrial t ≤ s) × (s ≤ last + 1) × (last ≡ lastTrial t) × NoneBefore t s × (firstTrial t < s → failed row mark ≡ trialOf t (s - 1))
+Inv-loop t last s₀ row₀ mark₀ value₀ s row mark value =
+    (firstTrial t ≤ s) × (s ≤ last + 1) × (last ≡ lastTrial t) × NoneBefore t s × (firstTrial t < s → failed row mark value ≡ trialOf t (s - 1))
 
 abbrev μ-loop : tie.MeasureT-loop
-μ-loop t last s₀ row₀ mark₀ s row mark = last + 1 - s
+μ-loop t last s₀ row₀ mark₀ value₀ s row mark value = last + 1 - s
 
 sub-smaller : tie.Need-sub-smaller Inv-loop μ-loop
 sub-smaller c = omega (arith, c .before .pre .processors .0)
@@ -64,7 +64,7 @@ loop-again c =
     let e = c .before .before .before .trial .ensures in
     let o = ap (λ (x : Tried). x .outcome) (sym e) ∙ c .before .outcome .given .1 in
     let z : l .s + 1 - 1 ≡ l .s = omega arith in
-    (omega arith, omega arith, l .inv .2, none-more t (l .s) (l .inv .3) (ap isPlanned o), λ b. rw z (sym (trial-failed t (l .s) (c .before .outcome .given .0 .0) (c .before .outcome .given .0 .1 .0) o)))
+    (omega arith, omega arith, l .inv .2, none-more t (l .s) (l .inv .3) (ap isPlanned o), λ b. rw z (sym (trial-failed t (l .s) (c .before .outcome .given .0 .0) (c .before .outcome .given .0 .1 .0) (c .before .outcome .given .0 .1 .1 .0) o)))
 
 failed-requires : tie.Need-failed-requires Inv-loop μ-loop
 failed-requires c κs = tt

@@ -32,7 +32,7 @@ returns c =
     let s = c .before .before .before .before .before .args .s in
     let found : c .before .before .before .find-sections .result ≡ sections t s = rw (c .before .before .before .before .serve .ensures) at (c .before .before .before .find-sections .ensures) in
     let e = trial-missing t s (omega (arith, ap (λ (x : Sections). x .missing) found, c .before .before .if1 .taken)) in
-    c .failed .ensures ∙ ap (λ (x : Sections). failed (getD (t .row) (x .missing) 0) 1) found ∙ sym e
+    c .failed .ensures ∙ ap (λ (x : Sections). failed (getD (t .row) (x .missing) 0) 1 (x .value)) found ∙ sym e
 
 find-places-requires : tie.Need-find-places-requires
 unfolding sections homes
@@ -59,7 +59,7 @@ returns-2 c =
     let found : c .before .before .before .before .before .before .find-sections .result ≡ sections t s = rw (c .before .before .before .before .before .before .before .serve .ensures) at (c .before .before .before .before .before .before .find-sections .ensures) in
     let placed : c .before .before .before .find-places .result ≡ stages t s = rw found at (c .before .before .before .find-places .ensures) in
     let e = trial-nowhere t s (omega (arith, ap (λ (x : Sections). x .missing) found, c .before .before .before .before .before .if1 .left)) (omega (arith, ap (λ (x : Stages). x .nowhere) placed, c .before .before .if2 .taken)) in
-    c .failed2 .ensures ∙ ap (λ (x : Stages). failed (getD (t .row) (x .nowhere) 0) 2) placed ∙ sym e
+    c .failed2 .ensures ∙ ap (λ (x : Stages). failed (getD (t .row) (x .nowhere) 0) 2 (x .value)) placed ∙ sym e
 
 succeeded-requires : tie.Need-succeeded-requires
 succeeded-requires c κs = search needs

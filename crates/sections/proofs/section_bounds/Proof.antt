@@ -86,22 +86,22 @@ bound-on-requires c κs =
 enum-known-found : tie.Need-enum-known-found Inv-loop μ-loop
 enum-known-found c = search needs
 
-enum-told : tie.Need-enum-told Inv-loop μ-loop
-enum-told c = c .match .keys2
-
-returns : tie.Need-returns Inv-loop μ-loop
-returns c =
-    let a = c .before .before .before .before .before .before .before .before .before .before .before .before .before .before .before .before .args in
-    let l = c .before .before .before .before .before .before .before .before .before .before .before .loop in
-    let h = c .before .before .before .before .before .before .before .before .before .before .before .before .before .before .before .before .pre .served (l .k) (omega arith) in
-    let f = bound-found (a .npp) (a .period .now) (a .section .now) (a .top .now) (a .home .now) (a .n) (l .k) (c .before .before .bound-on .result) (omega arith) (l .inv .2) (rw (c .before .before .before .before .before .before .before .before .blocking .ensures) at (c .before .before .bound-on .ensures)) in
-    sections-missing (a .npp) (a .period .now) (a .section .now) (a .top .now) (a .home .now) (a .n) (l .k) (l .bound) (omega arith) (l .inv .3) (ap isMissing (sym f ∙ c .enum-told .given .1)) (l .inv .1)
-
 mul-bound : tie.Need-mul-bound Inv-loop μ-loop
 mul-bound c = search needs
 
 array-write-bound : tie.Need-array-write-bound Inv-loop μ-loop
 array-write-bound c = search needs
+
+enum-known-found-2 : tie.Need-enum-known-found-2 Inv-loop μ-loop
+enum-known-found-2 c = search needs
+
+returns : tie.Need-returns Inv-loop μ-loop
+returns c =
+    let a = c .before .before .before .before .before .before .before .before .before .before .before .before .before .before .before .before .before .args in
+    let l = c .before .before .before .before .before .before .before .before .before .before .before .before .loop in
+    let h = c .before .before .before .before .before .before .before .before .before .before .before .before .before .before .before .before .before .pre .served (l .k) (omega arith) in
+    let f = bound-found (a .npp) (a .period .now) (a .section .now) (a .top .now) (a .home .now) (a .n) (l .k) (c .before .before .before .bound-on .result) (omega arith) (l .inv .2) (rw (c .before .before .before .before .before .before .before .before .before .blocking .ensures) at (c .before .before .before .bound-on .ensures)) in
+    sections-missing (a .npp) (a .period .now) (a .section .now) (a .top .now) (a .home .now) (a .n) (l .k) (c .before .found2 .given .0 .0) (l .bound) (omega arith) (l .inv .3) (sym f ∙ c .before .found2 .given .1) (l .inv .1)
 
 slice-aggregate-add-term : tie.Need-slice-aggregate-add-term Inv-loop μ-loop
 slice-aggregate-add-term c = search needs
@@ -177,10 +177,10 @@ section-bounds-spec =
     element-copy-out-bound-on-2
     bound-on-requires
     enum-known-found
-    enum-told
-    returns
     mul-bound
     array-write-bound
+    enum-known-found-2
+    returns
     slice-aggregate-add-term
     slice-aggregate-add-term-2
     mul-add-term

@@ -20,14 +20,14 @@ bound-on-requires c κs = search needs
 enum-known-first : tie.Need-enum-known-first
 enum-known-first c = search needs
 
-enum-told : tie.Need-enum-told
-enum-told c = search needs
+enum-known-first-2 : tie.Need-enum-known-first-2
+enum-known-first-2 c = search needs
 
 returns : tie.Need-returns
 returns c =
-    let a = c .before .before .before .before .before .args in
+    let a = c .before .before .before .before .before .before .args in
     let terms = (lane (a .periods .now) (a .lens .now) (a .p) (getD (a .count .now) (a .p) 0)) in
-    sym (fit-first terms (a .c1) (a .c2) (a .section) (a .period) (sym (c .before .before .bound-on .ensures) ∙ c .enum-told .given .1))
+    sym (fit-first terms (a .c1) (a .c2) (a .section) (a .period) (c .before .first2 .given .0 .0) (sym (c .before .before .before .bound-on .ensures) ∙ c .before .first2 .given .1))
 
 bound-on-requires-2 : tie.Need-bound-on-requires-2
 bound-on-requires-2 c κs = search needs
@@ -35,25 +35,25 @@ bound-on-requires-2 c κs = search needs
 enum-known-second : tie.Need-enum-known-second
 enum-known-second c = search needs
 
-enum-told-2 : tie.Need-enum-told-2
-enum-told-2 c = search needs
+enum-known-second-2 : tie.Need-enum-known-second-2
+enum-known-second-2 c = search needs
 
 returns-2 : tie.Need-returns-2
 returns-2 c =
-    let a = c .before .before .before .before .before .before .before .before .before .args in
+    let a = c .before .before .before .before .before .before .before .before .before .before .args in
     let terms = (lane (a .periods .now) (a .lens .now) (a .p) (getD (a .count .now) (a .p) 0)) in
-    sym (fit-second terms (a .c1) (a .c2) (a .section) (a .period) (c .before .before .before .before .first .given .0 .0) (sym (c .before .before .before .before .before .before .bound-on .ensures) ∙ c .before .before .before .before .first .given .1) (sym (c .before .before .bound-on2 .ensures) ∙ c .enum-told2 .given .1))
+    sym (fit-second terms (a .c1) (a .c2) (a .section) (a .period) (c .before .before .before .before .before .first .given .0 .0) (c .before .second2 .given .0 .0) (sym (c .before .before .before .before .before .before .before .bound-on .ensures) ∙ c .before .before .before .before .before .first .given .1) (sym (c .before .before .before .bound-on2 .ensures) ∙ c .before .second2 .given .1))
 
-add-if1 : tie.Need-add-if1
-add-if1 c =
+add-sum : tie.Need-add-sum
+add-sum c =
     let a = c .before .before .before .before .before .before .before .before .before .before .args in
     let terms = (lane (a .periods .now) (a .lens .now) (a .p) (getD (a .count .now) (a .p) 0)) in
     let e = sym (c .before .before .before .before .before .before .before .bound-on .ensures) ∙ c .before .before .before .before .before .first .given .1 in
     let f = sym (c .before .before .before .bound-on2 .ensures) ∙ c .before .second .given .1 in
     omega (arith, bound-le terms 0 (a .period - a .section) (c .before .before .before .before .before .first .given .0 .0) (a .c1) e)
 
-add-if1-2 : tie.Need-add-if1-2
-add-if1-2 c =
+add-sum-2 : tie.Need-add-sum-2
+add-sum-2 c =
     let a = c .before .before .before .before .before .before .before .before .before .before .args in
     let terms = (lane (a .periods .now) (a .lens .now) (a .p) (getD (a .count .now) (a .p) 0)) in
     let e = sym (c .before .before .before .before .before .before .before .bound-on .ensures) ∙ c .before .before .before .before .before .first .given .1 in
@@ -83,13 +83,13 @@ fit-on-spec =
     sub-limit
     bound-on-requires
     enum-known-first
-    enum-told
+    enum-known-first-2
     returns
     bound-on-requires-2
     enum-known-second
-    enum-told-2
+    enum-known-second-2
     returns-2
-    add-if1
-    add-if1-2
+    add-sum
+    add-sum-2
     returns-3
     returns-4)

@@ -87,16 +87,6 @@ first-fit-requires c κs =
 enum-known-place : tie.Need-enum-known-place Inv-loop μ-loop
 enum-known-place c = search needs
 
-enum-told : tie.Need-enum-told Inv-loop μ-loop
-enum-told c = c .match .keys2
-
-returns : tie.Need-returns Inv-loop μ-loop
-returns c =
-    let a = c .before .before .before .before .before .before .before .before .before .before .before .before .before .before .before .before .before .before .args in
-    let l = c .before .before .before .before .before .before .before .before .before .before .before .loop in
-    let e = sym (place-found (a .period .now) (a .c1 .now) (a .c2 .now) (a .work .now) (a .section .now) (a .s) (a .m) (l .k) (c .before .before .before .before .before .before .before .before .before .before .before .before .before .before .before .before .before .before .pre .processors .1) (l .inv .1) (l .inv .2)) ∙ sym (c .before .before .first-fit .ensures) ∙ c .enum-told .given .1 in
-    stages-nowhere (a .period .now) (a .c1 .now) (a .c2 .now) (a .work .now) (a .section .now) (a .s) (a .m) (a .n) (l .k) (omega arith) (l .inv .1) e
-
 mul-processor : tie.Need-mul-processor Inv-loop μ-loop
 mul-processor c = search needs
 
@@ -145,6 +135,16 @@ add-term-requires c κs =
     let i = place-in _ (a .s) (a .m) (c .before .before .before .before .before .before .place .given .0 .0) (c .before .before .before .before .before .before .place .given .0 .1 .0) (c .before .before .before .before .before .before .place .given .0 .1 .1 .0) (sym (c .before .before .before .before .before .before .before .before .first-fit .ensures) ∙ c .before .before .before .before .before .before .place .given .1) in
     let p : c .before .before .before .before .before .before .place .given .0 .0 < 17 = omega (arith, i .1, m) in
     (p, omega (arith, few, l .inv .2 .few (c .before .before .before .before .before .before .place .given .0 .0) p), l .inv .2 .long .0, l .inv .2 .long .1)
+
+enum-known-place-2 : tie.Need-enum-known-place-2 Inv-loop μ-loop
+enum-known-place-2 c = search needs
+
+returns : tie.Need-returns Inv-loop μ-loop
+returns c =
+    let a = c .before .before .before .before .before .before .before .before .before .before .before .before .before .before .before .before .before .before .before .args in
+    let l = c .before .before .before .before .before .before .before .before .before .before .before .before .loop in
+    let e = sym (place-found (a .period .now) (a .c1 .now) (a .c2 .now) (a .work .now) (a .section .now) (a .s) (a .m) (l .k) (c .before .before .before .before .before .before .before .before .before .before .before .before .before .before .before .before .before .before .before .pre .processors .1) (l .inv .1) (l .inv .2)) ∙ sym (c .before .before .before .first-fit .ensures) ∙ c .before .place2 .given .1 in
+    stages-nowhere (a .period .now) (a .c1 .now) (a .c2 .now) (a .work .now) (a .section .now) (a .s) (a .m) (a .n) (l .k) (c .before .place2 .given .0 .0) (omega arith) (l .inv .1) e
 
 add-k : tie.Need-add-k Inv-loop μ-loop
 add-k c = omega (arith, c .before .before .before .before .before .before .before .before .before .before .before .before .before .before .before .before .before .before .before .before .before .before .before .before .before .before .before .pre .few, c .before .before .before .before .before .before .before .before .before .before .before .before .before .before .before .before .before .before .before .loop-test .taken)
@@ -198,8 +198,6 @@ place-tasks-spec =
     element-copy-out-first-fit-4
     first-fit-requires
     enum-known-place
-    enum-told
-    returns
     mul-processor
     array-write-processor
     mul-d1
@@ -214,6 +212,8 @@ place-tasks-spec =
     mul-add-term-2
     element-copy-out-add-term-2
     add-term-requires
+    enum-known-place-2
+    returns
     add-k
     loop-less
     loop-again
