@@ -16,7 +16,7 @@ use Rattle.plan.specs.Tasks.{weighed, tasksOf}
 use Rattle.plan.specs.Trial.{numberOf}
 use Rattle.plan.specs.Planning.{plannedOf}
 use Rattle.plan.proofs.Exactly.{number-planned, number-failed, Succeeds, plan-exactly}
-use Rattle.run.proofs.Refusals.{Marked, picked, outcome-marked}
+use Rattle.run.proofs.Refusals.{Marked, whichever, outcome-marked}
 use Rattle.kieferntuch.specs.declared.Answer.{Answer}
 use Rattle.kieferntuch.specs.Answer.{answer, answerOf, short, outcomeAnswer, planAnswer}
 
@@ -81,7 +81,7 @@ module _ (bs : List ℕ) (at size : ℕ) where
   -- "Mark is 0 but for 11", and so is the value
   pub plan-marked : Marked (planAnswer (readingOf bs) at size .number) (planAnswer (readingOf bs) at size .mark) (planAnswer (readingOf bs) at size .value)
   unfolding planAnswer
-  plan-marked = picked kept (ltb 0 (readingOf bs .number)) (inr (refl, refl)) (picked kept (short size at (readingOf bs .table .n)) (inr (refl, refl)) (outcome-marked out))
+  plan-marked = whichever kept (ltb 0 (readingOf bs .number)) (inr (refl, refl)) (whichever kept (short size at (readingOf bs .table .n)) (inr (refl, refl)) (outcome-marked out))
     where
       kept : Answer → Type 0
       kept x = Marked (x .number) (x .mark) (x .value)

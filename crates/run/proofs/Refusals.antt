@@ -17,9 +17,9 @@ use Rattle.run.specs.Run.{Ran, refused, done, lateTick, steppedOf}
 use Rattle.run.specs.Answer.{callNumber, callAnswer, tableAnswer, runAnswer}
 
 -- what both of two answers keep, the one that a test picks keeps
-pub picked : {A : Type 0} (P : A → Type 0) (b : Bool) {x y : A} → P x → P y → P (cond b x y)
-picked P true p q = p
-picked P false p q = q
+pub whichever : {A : Type 0} (P : A → Type 0) (b : Bool) {x y : A} → P x → P y → P (cond b x y)
+whichever P true p q = p
+whichever P false p q = q
 
 -- refusal 11, or neither a mark nor a value
 abbrev pub Marked : ℕ → ℕ → ℕ → Type 0
@@ -39,9 +39,9 @@ module _ (r : Reading) (xs : List Arrival) (f w size : ℕ) where
   answers P plain failed ran =
       let t = r .table in
       let c = chartOf t (plannedOf t .plan) in
-      picked P (ltb 0 (r .number)) (plain _ _)
-      (picked P (ltb 0 (numberOf (plannedOf t .outcome))) (failed (plannedOf t .outcome))
-      (picked P (ltb 0 (callNumber t xs f w size)) (plain _ _) (picked P (ltb (lateTick c xs (f + w)) (f + w)) (plain 19 _) (ran _ _))))
+      whichever P (ltb 0 (r .number)) (plain _ _)
+      (whichever P (ltb 0 (numberOf (plannedOf t .outcome))) (failed (plannedOf t .outcome))
+      (whichever P (ltb 0 (callNumber t xs f w size)) (plain _ _) (whichever P (ltb (lateTick c xs (f + w)) (f + w)) (plain 19 _) (ran _ _))))
 
   -- "Mark is 0 but for 11", and so is the value
   pub run-marked : Marked (runAnswer r xs f w size .number) (runAnswer r xs f w size .mark) (runAnswer r xs f w size .value)
