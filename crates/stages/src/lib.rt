@@ -50,12 +50,12 @@ fn fit_on(
     let first = bounds::bound_on(periods, lens, count, p, c1, 0, limit);
     let d1 = match first {
         Bound::At(t) => t,
-        Bound::Missing(v) => return Fit::Not(v),
+        Bound::Missing(v1) => return Fit::Not(v1),
     };
     let second = bounds::bound_on(periods, lens, count, p, c2, 0, limit);
     let d2 = match second {
         Bound::At(t) => t,
-        Bound::Missing(v) => return Fit::Not(v),
+        Bound::Missing(v2) => return Fit::Not(v2),
     };
     let sum = d1 + section + d2;
     if sum > period {

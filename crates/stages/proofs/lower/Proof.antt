@@ -7,7 +7,7 @@ returns : tie.Need-returns
 returns c = rw (c .if1 .taken)
 
 smaller-requires : tie.Need-smaller-requires
-smaller-requires c κs = tt
+smaller-requires c κs = search needs
 
 returns-2 : tie.Need-returns-2
 returns-2 c = rw (c .before .if1 .left) (c .smaller .ensures)
