@@ -15,7 +15,7 @@ use Rattle.table.proofs.Good.{table-good, number-le as table-le}
 use Rattle.plan.specs.declared.Plan.{Plan}
 use Rattle.plan.specs.declared.Outcome.{Outcome}
 use Rattle.plan.specs.declared.Outcome.the-variants.{Planned, Failed}
-use Rattle.plan.specs.Trial.{numberOf, namesOf, markOf}
+use Rattle.plan.specs.Trial.{numberOf, namesOf, markOf, valueOf}
 use Rattle.plan.specs.Planning.{plannedOf}
 use Rattle.arrivals.specs.declared.Arrival.{Arrival}
 use Rattle.arrivals.specs.Arrival.{brings}
@@ -58,8 +58,8 @@ module _ (bs : List ℕ) (xs : List Arrival) (f w size : ℕ) where
   Kept = Keeps t p
 
   -- a refusal has no responses
-  refusal : (number names mark : ℕ) → number ≤ 18 → Kept (refused number names mark)
-  refusal number names mark h = record { number-le = h; worst-le = λ i j hi hj. omega (arith, getD-blank {A = ℕ} 192 0 (3 * i + j)) }
+  refusal : (number names mark value : ℕ) → number ≤ 18 → Kept (refused number names mark value)
+  refusal number names mark value h = record { number-le = h; worst-le = λ i j hi hj. omega (arith, getD-blank {A = ℕ} 192 0 (3 * i + j)) }
 
   -- whichever way a test goes
   tested : (a b : ℕ) (x y : Ran) → (a < b → Kept x) → (b ≤ a → Kept y) → Kept (cond (ltb a b) x y)
@@ -87,21 +87,21 @@ module _ (bs : List ℕ) (xs : List Arrival) (f w size : ℕ) where
     unfolding callAnswer
     called planned =
         tested 0 (callNumber t xs f w size) _ _
-        (λ h. refusal _ _ _ (call-le t xs f w size))
+        (λ h. refusal _ _ _ _ (call-le t xs f w size))
         (λ h. stepped planned (allowed t xs f w size (omega arith) .good))
 
     -- refusal 11
-    tried : (o : Outcome) → plannedOf t .outcome ≡ o → Kept (cond (ltb 0 (numberOf o)) (refused (numberOf o) (namesOf o) (markOf o)) (callAnswer t p xs f w size))
+    tried : (o : Outcome) → plannedOf t .outcome ≡ o → Kept (cond (ltb 0 (numberOf o)) (refused (numberOf o) (namesOf o) (markOf o) (valueOf o)) (callAnswer t p xs f w size))
     unfolding numberOf
     tried Planned e = called e
-    tried (Failed row mark) e = refusal 11 _ _ (omega arith)
+    tried (Failed row mark value) e = refusal 11 _ _ _ (omega arith)
 
   -- refusals 1 to 9
   answered : Kept (runAnswer (readingOf bs) xs f w size)
   unfolding runAnswer tableAnswer
   answered =
       tested 0 (readingOf bs .number) _ _
-      (λ h. refusal _ _ _ (omega (arith, table-le bs)))
+      (λ h. refusal _ _ _ _ (omega (arith, table-le bs)))
       (λ h. tried (omega arith) (plannedOf t .outcome) refl)
 
 -- no worst response that a call returns is above the plan's bound,

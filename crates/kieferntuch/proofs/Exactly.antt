@@ -1,4 +1,5 @@
--- When planning answers what: 0 exactly when one of the trials that the paper lists succeeds, 11 exactly when each of them fails.
+-- When planning answers what: 0 exactly when one of the trials that the paper lists succeeds, 11 exactly when each of them fails; and that only
+-- 11 has a mark and a value.
 use Prim.Native.Nat.{ℕ, _+_, _*_, _≤_}
 use mathlib.Core.Path.{_≡_, refl, sym, _∙_}
 use mathlib.Core.List.{List}
@@ -15,6 +16,8 @@ use Rattle.plan.specs.Tasks.{weighed, tasksOf}
 use Rattle.plan.specs.Trial.{numberOf}
 use Rattle.plan.specs.Planning.{plannedOf}
 use Rattle.plan.proofs.Exactly.{number-planned, number-failed, Succeeds, plan-exactly}
+use Rattle.run.proofs.Refusals.{Marked, whichever, outcome-marked}
+use Rattle.kieferntuch.specs.declared.Answer.{Answer}
 use Rattle.kieferntuch.specs.Answer.{answer, answerOf, short, outcomeAnswer, planAnswer}
 
 -- the bytes are a good table, and the sheet has room for its plan
@@ -41,7 +44,7 @@ module _ (bs : List ℕ) (at size : ℕ) where
   unfolding planAnswer
   ready-by number e h = go (ltb 0 (readingOf bs .number)) (short size at (readingOf bs .table .n)) refl refl e
     where
-      go : (a b : Bool) → ltb 0 (readingOf bs .number) ≡ a → short size at (readingOf bs .table .n) ≡ b → cond a (answerOf (readingOf bs)) (cond b (answer 10 0 0) (outcomeAnswer out)) .number ≡ number → Ready bs at size
+      go : (a b : Bool) → ltb 0 (readingOf bs .number) ≡ a → short size at (readingOf bs .table .n) ≡ b → cond a (answerOf (readingOf bs)) (cond b (answer 10 0 0 0) (outcomeAnswer out)) .number ≡ number → Ready bs at size
       go true b x y e = absurd (⊎-elim (λ z. omega (arith, ltb-true 0 (readingOf bs .number) x)) (λ z. omega (arith, number-le bs)) h)
       go false true x y e = absurd (⊎-elim (λ z. omega arith) (λ z. omega arith) h)
       go false false x y e = (omega (arith, ltb-false 0 (readingOf bs .number) x), ltb-false size (at + (12 + 9 * readingOf bs .table .n)) y)
@@ -74,3 +77,11 @@ module _ (bs : List ℕ) (at size : ℕ) where
         (r, λ s. omega (arith, planned-zero out (succeeds (r .0) .1 s), ready r))),
     λ (r, none). ready r ∙ number-failed out (λ p. none (succeeds (r .0) .0 p)),
   )
+
+  -- "Mark is 0 but for 11", and so is the value
+  pub plan-marked : Marked (planAnswer (readingOf bs) at size .number) (planAnswer (readingOf bs) at size .mark) (planAnswer (readingOf bs) at size .value)
+  unfolding planAnswer
+  plan-marked = whichever kept (ltb 0 (readingOf bs .number)) (inr (refl, refl)) (whichever kept (short size at (readingOf bs .table .n)) (inr (refl, refl)) (outcome-marked out))
+    where
+      kept : Answer → Type 0
+      kept x = Marked (x .number) (x .mark) (x .value)

@@ -14,7 +14,7 @@ use Rattle.lists.proofs.Sets.{take-rest, sets-part}
 use Rattle.table.specs.declared.Reading.{Reading}
 use Rattle.plan.specs.declared.Outcome.the-variants.{Planned, Failed}
 use Rattle.plan.specs.declared.Tried.{Tried}
-use Rattle.plan.specs.Trial.{numberOf, namesOf, markOf}
+use Rattle.plan.specs.Trial.{numberOf, namesOf, markOf, valueOf}
 use Rattle.plan.specs.Planning.{plannedOf}
 use Rattle.kieferntuch.specs.declared.Answer.{Answer}
 use Rattle.kieferntuch.specs.Answer.{answer, answerOf, planAnswer}
@@ -51,21 +51,21 @@ module _ (r : Reading) (at : ℕ) (sheet : List ℕ) where
 
   module _ (good : r .number ≤ 0) where
     -- 10
-    pub too-short : length sheet < at + (12 + 9 * r .table .n) → Ended r at sheet (answer 10 0 0) sheet
+    pub too-short : length sheet < at + (12 + 9 * r .table .n) → Ended r at sheet (answer 10 0 0 0) sheet
     unfolding planAnswer
-    too-short h = kept (answer 10 0 0) (omega arith) (rw (le-ltb 0 (r .number) good, lt-ltb (length sheet) (at + (12 + 9 * r .table .n)) h))
+    too-short h = kept (answer 10 0 0 0) (omega arith) (rw (le-ltb 0 (r .number) good, lt-ltb (length sheet) (at + (12 + 9 * r .table .n)) h))
 
     module _ (room : at + (12 + 9 * r .table .n) ≤ length sheet) (x : Tried) (is : x ≡ plannedOf (r .table)) where
       -- 11
-      pub no-plan : (row mark : ℕ) → x .outcome ≡ Failed row mark → Ended r at sheet (answer 11 row mark) sheet
-      unfolding planAnswer numberOf namesOf markOf
-      no-plan row mark e =
-          kept (answer 11 row mark) (omega arith)
+      pub no-plan : (row mark value : ℕ) → x .outcome ≡ Failed row mark value → Ended r at sheet (answer 11 row mark value) sheet
+      unfolding planAnswer numberOf namesOf markOf valueOf
+      no-plan row mark value e =
+          kept (answer 11 row mark value) (omega arith)
           (rw (le-ltb 0 (r .number) good, le-ltb (length sheet) (at + (12 + 9 * r .table .n)) room, sym is, e))
 
       -- and the plan is written
-      pub has-plan : (after : List ℕ) → x .outcome ≡ Planned → after ≡ writtenAt sheet at (bytesOf (r .table) (x .plan)) → Ended r at sheet (answer 0 0 0) after
-      unfolding planAnswer sheetAfter numberOf namesOf markOf
+      pub has-plan : (after : List ℕ) → x .outcome ≡ Planned → after ≡ writtenAt sheet at (bytesOf (r .table) (x .plan)) → Ended r at sheet (answer 0 0 0 0) after
+      unfolding planAnswer sheetAfter numberOf namesOf markOf valueOf
       has-plan after e w =
-          let a : answer 0 0 0 ≡ planAnswer r at (length sheet) = rw (le-ltb 0 (r .number) good, le-ltb (length sheet) (at + (12 + 9 * r .table .n)) room, sym is, e) in
+          let a : answer 0 0 0 0 ≡ planAnswer r at (length sheet) = rw (le-ltb 0 (r .number) good, le-ltb (length sheet) (at + (12 + 9 * r .table .n)) room, sym is, e) in
           (a, w ∙ rw (sym a, sym is))

@@ -35,15 +35,19 @@ cases =
     (written (P PCP), "plan 3 3 1" ∷ "resource 1 1" ∷ "resource 2 1" ∷ "task 1 2 1 4 1" ∷ "task 2 2 4 5 4" ∷ "task 3 2 10 10 10" ∷ [])
     -- "m = 2, one row (1,1,0,0,0): s 0, processor 1, bounds 1, 0, 0": no resource is used
     ∷ (written (2, PCP, (1, 1, 0, 0, 0) ∷ []), "plan 1 2 0" ∷ "task 1 1 1 0 0" ∷ [])
-    -- "Q: two rows (10,4,1,4,1), PCP, m = 2: refused 11, row 2, mark 2."
-    ∷ (written (Q 2 4), "refused 11 2 2" ∷ [])
-    -- one row of period 1,000,001: "1,000,001 is refusal 6", and "Mark is 0 but for 11"
-    ∷ (hex "02 20|F4 24 10 00 01 00 00 00 00 00 00", "refused 6 1 0" ∷ [])
+    -- "Q: two rows (10,4,1,4,1), PCP, m = 2: refused 11, row 2, mark 2.", and "The listing's refused line ends with the value": 12
+    ∷ (written (Q 2 4), "refused 11 2 2 12" ∷ [])
+    -- "m = 2, two rows (4,0,3,0,1), PCP: 11, row 1, mark 1."; the value is 3 + 2
+    ∷ (written (2, PCP, (4, 0, 3, 0, 1) ∷ (4, 0, 3, 0, 1) ∷ []), "refused 11 1 1 5" ∷ [])
+    -- one row of period 1,000,001: "1,000,001 is refusal 6", "Mark is 0 but for 11", and the value is "0 for every other number"
+    ∷ (hex "02 20|F4 24 10 00 01 00 00 00 00 00 00", "refused 6 1 0 0" ∷ [])
+    -- a header for two rows, and no row behind it
+    ∷ (hex "04 20", "refused 5 0 0 0" ∷ [])
     -- "Empty input is refusal 1."
-    ∷ ([], "refused 1 0 0" ∷ [])
+    ∷ ([], "refused 1 0 0 0" ∷ [])
     ∷ []
 
 -- the definitions compute all of them
 every-case : All cases
 unfolding cases planning joined spelled decimal spaced line refusedLine planLine resourceLine resourceLines taskLine planText outcomeText listingOf
-every-case = (refl, (refl, (refl, (refl, (refl, tt)))))
+every-case = (refl, (refl, (refl, (refl, (refl, (refl, (refl, tt)))))))

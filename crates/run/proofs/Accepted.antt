@@ -11,7 +11,7 @@ use Rattle.table.specs.declared.Table.{Table}
 use Rattle.table.specs.declared.Reading.{Reading}
 use Rattle.plan.specs.declared.Outcome.the-variants.{Planned}
 use Rattle.plan.specs.declared.Tried.{Tried}
-use Rattle.plan.specs.Trial.{numberOf, namesOf, markOf}
+use Rattle.plan.specs.Trial.{numberOf, namesOf, markOf, valueOf}
 use Rattle.plan.specs.Planning.{plannedOf}
 use Rattle.plan.proofs.Exactly.{number-planned}
 use Rattle.arrivals.specs.declared.Arrival.{Arrival}
@@ -56,11 +56,11 @@ module _ (r : Reading) (xs : List Arrival) (f w size : ℕ) where
   run-accepted z =
       let t : Table = r .table in
       let tried : Tried = plannedOf t in
-      let read = passed 0 (r .number) (refused (r .number) (r .names) 0) (tableAnswer t tried xs f w size) (λ h. h) z in
-      let planned = passed 0 (numberOf (tried .outcome)) (refused (numberOf (tried .outcome)) (namesOf (tried .outcome)) (markOf (tried .outcome))) (callAnswer t (tried .plan) xs f w size) (λ h. h) (read .2) in
-      let called = passed 0 (callNumber t xs f w size) (refused (callNumber t xs f w size) (callNames t xs f w size) 0) (steppedOf (chartIn t) xs f w) (λ h. h) (planned .2) in
+      let read = passed 0 (r .number) (refused (r .number) (r .names) 0 0) (tableAnswer t tried xs f w size) (λ h. h) z in
+      let planned = passed 0 (numberOf (tried .outcome)) (refused (numberOf (tried .outcome)) (namesOf (tried .outcome)) (markOf (tried .outcome)) (valueOf (tried .outcome))) (callAnswer t (tried .plan) xs f w size) (λ h. h) (read .2) in
+      let called = passed 0 (callNumber t xs f w size) (refused (callNumber t xs f w size) (callNames t xs f w size) 0 0) (steppedOf (chartIn t) xs f w) (λ h. h) (planned .2) in
       let late : ℕ = lateTick (chartIn t) xs (f + w) in
-      let stepped = passed late (f + w) (refused 19 (suc (lateAt (chartIn t) (brings xs) late)) 0) (ranTo (chartIn t) xs (f + w)) (λ h. omega arith) (called .2) in
+      let stepped = passed late (f + w) (refused 19 (suc (lateAt (chartIn t) (brings xs) late)) 0 0) (ranTo (chartIn t) xs (f + w)) (λ h. omega arith) (called .2) in
       let none : callNumber t xs f w size ≡ 0 = omega (arith, called .0) in
       record {
         read = omega (arith, read .0);

@@ -12,7 +12,7 @@ use Rattle.table.specs.declared.Table.{Table}
 use Rattle.table.specs.declared.Reading.{Reading}
 use Rattle.plan.specs.declared.Tried.{Tried}
 use Rattle.plan.specs.declared.Outcome.the-variants.{Planned, Failed}
-use Rattle.plan.specs.Trial.{numberOf, namesOf, markOf}
+use Rattle.plan.specs.Trial.{numberOf, namesOf, markOf, valueOf}
 use Rattle.plan.specs.Planning.{plannedOf}
 use Rattle.arrivals.specs.declared.Arrival.{Arrival}
 use Rattle.machine.specs.Chart.{chartOf}
@@ -87,19 +87,19 @@ module _ (r : Reading) (xs : List Arrival) (f w : ℕ) (trace : List ℕ) where
   Leaves ran after = (ran ≡ runAnswer r xs f w (length trace)) × (after ≡ traceAfter r xs f w trace)
 
   -- 1 to 9
-  pub bad-table : 0 < r .number → Leaves (refused (r .number) (r .names) 0) trace
+  pub bad-table : 0 < r .number → Leaves (refused (r .number) (r .names) 0 0) trace
   unfolding runAnswer traceAfter
   bad-table h = rw (lt-ltb 0 (r .number) h) (refl, refl)
 
   module _ (z : r .number ≡ 0) (tried : Tried) (p : tried ≡ plannedOf (r .table)) where
     -- 11
-    pub no-plan : (row mark : ℕ) → tried .outcome ≡ Failed row mark → Leaves (refused 11 row mark) trace
-    unfolding runAnswer traceAfter tableAnswer numberOf namesOf markOf
-    no-plan row mark e = rw (z, sym p, e) (refl, refl)
+    pub no-plan : (row mark value : ℕ) → tried .outcome ≡ Failed row mark value → Leaves (refused 11 row mark value) trace
+    unfolding runAnswer traceAfter tableAnswer numberOf namesOf markOf valueOf
+    no-plan row mark value e = rw (z, sym p, e) (refl, refl)
 
     module _ (e : tried .outcome ≡ Planned) where
       -- 12 to 18
-      pub bad-call : (number names : ℕ) → Call (r .table) xs f w (length trace) number names → 0 < number → Leaves (refused number names 0) trace
+      pub bad-call : (number names : ℕ) → Call (r .table) xs f w (length trace) number names → 0 < number → Leaves (refused number names 0 0) trace
       unfolding runAnswer traceAfter tableAnswer callAnswer numberOf
       bad-call number names q h = rw (z, sym p, e, sym (q .0), sym (q .1), lt-ltb 0 number h) (refl, refl)
 

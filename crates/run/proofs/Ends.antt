@@ -20,13 +20,13 @@ Ends c xs f w trace r shown = (r ≡ steppedOf c xs f w) × (shown ≡ shownOf c
 
 module _ (c : Chart) (xs : List Arrival) (f w : ℕ) (trace : List ℕ) where
   -- 19, in one of the first e ticks
-  pub fell : (e late : ℕ) → e ≤ f + w → Falls c xs e late → Ends c xs f w trace (refused 19 (late + 1) 0) (blank (c .m * w) 0 ++ drop (c .m * w) trace)
+  pub fell : (e late : ℕ) → e ≤ f + w → Falls c xs e late → Ends c xs f w trace (refused 19 (late + 1) 0 0) (blank (c .m * w) 0 ++ drop (c .m * w) trace)
   unfolding steppedOf shownOf
   fell e late le h =
       let b : h .tick < f + w = omega (arith, h .before) in
       let t = first-is (f + w) (isLate c xs) (h .tick) b (h .clear) (h .is) in
       let row : late + 1 ≡ suc late = omega arith in
-      rw (t, lt-ltb (h .tick) (f + w) b) (ap (λ (k : ℕ). refused 19 k 0) (row ∙ ap suc (h .row)), refl)
+      rw (t, lt-ltb (h .tick) (f + w) b) (ap (λ (k : ℕ). refused 19 k 0 0) (row ∙ ap suc (h .row)), refl)
 
   -- none came too early
   pub stood : (flat dues worst : List ℕ) (next : ℕ) → Stands c xs (f + w) flat dues worst next → Ends c xs f w trace (done worst (tallyOf (c .n) (jobsIn flat))) (log c xs f w ++ drop (c .m * w) trace)

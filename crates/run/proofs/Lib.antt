@@ -5,6 +5,7 @@ pub mod Charted
 pub mod Calls
 pub mod Many
 pub mod Accepted
+pub mod Refusals
 pub mod Window
 pub mod Lengths
 pub mod Busy

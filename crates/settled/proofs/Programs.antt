@@ -32,7 +32,7 @@ right-runs κs a asked = (refl, refl)
 
 -- it answers 1 to every call
 refuser : Planner
-refuser κs (table, (at, (sheet, _))) = (answer 1 0 0, (tt, (tt, (sheet .now, tt))))
+refuser κs (table, (at, (sheet, _))) = (answer 1 0 0 0, (tt, (tt, (sheet .now, tt))))
 
 refuses : RefusesAll refuser
 unfolding refuser
@@ -86,7 +86,7 @@ module _ (u : Told) where
       let (table, (arrivals, (from, (ticks, (trace, _))))) = a in
       let (r, after) = right-runner κs a in
       let x = u (table .now) (arrivals .now) from ticks (trace .now) in
-      (record { number = r .number; names = r .names; mark = r .mark; worst = r .worst; jobs = x; run = x; owed = x }, after)
+      (record { number = r .number; names = r .names; mark = r .mark; value = r .value; worst = r .worst; jobs = x; run = x; owed = x }, after)
 
   guesses : MadeUp (λ r. r .run) u guesser × MadeUp (λ r. r .jobs) u guesser × MadeUp (λ r. r .owed) u guesser
   unfolding guesser

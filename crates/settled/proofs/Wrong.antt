@@ -23,8 +23,10 @@ use Rattle.rank.specs.Order.{inRank, inRows, numbersTo}
 use Rattle.table.specs.declared.Table.{Table}
 use Rattle.table.specs.Table.{headerNumber, ranked, readingOf}
 use Rattle.table.specs.Good.{GoodTask, taskAt, GoodTable}
+use Rattle.table.proofs.Given.{PCP, Q, written}
 use Rattle.spread.specs.Weight.{usedOf, lacksOf, heaviestOf}
 use Rattle.plan.specs.declared.Plan.{Plan}
+use Rattle.plan.proofs.Given.{planning}
 use Rattle.arrivals.specs.declared.Arrival.{Arrival}
 use Rattle.arrivals.specs.Arrival.{isOf, arrivalIn, arrivalsOf, flatOf}
 use Rattle.chain.specs.declared.Place.the-variants.{Running}
@@ -39,7 +41,8 @@ use Rattle.machine.specs.Chart.{chart, threes, topsOf, chartOf}
 use Rattle.machine.specs.Good.{soonestOf}
 use Rattle.machine.specs.Tick.{serveAt, kindOf, byteOf, notedAt}
 use Rattle.run.specs.Run.{refused}
-use Rattle.run.specs.Answer.{traceAfter}
+use Rattle.run.specs.Answer.{tableAnswer, runAnswer, traceAfter}
+use Rattle.kieferntuch.specs.Answer.{answer, planAnswer}
 use Rattle.lists.proofs.smaller as smaller
 use Rattle.lists.proofs.store as store
 use Rattle.rank.proofs.uses as uses
@@ -67,6 +70,7 @@ use Rattle.machine.proofs.soonest as soonest
 use Rattle.machine.proofs.serve_job as serve-job
 use Rattle.machine.proofs.note as note
 use Rattle.machine.proofs.show as show
+use Rattle.kieferntuch.proofs.kieferntuch_plan as planner
 use Rattle.kieferntuch.proofs.kieferntuch_run as run
 use Rattle.settled.specs.Settled.{Requires, Ensures, Given, Allows}
 use Rattle.settled.proofs.Records.{apart-asks, apart-says, run-asks, run-says}
@@ -404,6 +408,24 @@ bytes-from-processor-0 κs = ((refl, omega arith, (λ q. omega (arith, below (ar
 
 -- `kieferntuch_run`: a call that is refused for its table, here without bytes, leaves zeros in the trace
 wiped-on-refusal : (κs : _) (arrivals : List Arrival) → RuledOut run.ended run-asks run-says κs
-    (lent 1 [], (lent 2 arrivals, (0, (1, (lent 3 (blank 2 0xAA), tt))))) (refused 1 0 0, (_, (_, (_, (_, (blank 2 0, _))))))
+    (lent 1 [], (lent 2 arrivals, (0, (1, (lent 3 (blank 2 0xAA), tt))))) (refused 1 0 0 0, (_, (_, (_, (_, (blank 2 0, _))))))
 unfolding blank headerNumber readingOf traceAfter
 wiped-on-refusal κs arrivals = (tt, λ p. at 0 refl (p .1))
+
+-- `kieferntuch_run`: refusal 11 of Q on two processors has the mark, 2, in the place of the value, which is 12
+mark-for-the-value : (κs : _) (arrivals : List Arrival) → RuledOut run.ended run-asks run-says κs
+    (lent 1 (written (Q 2 4)), (lent 2 arrivals, (0, (1, (lent 3 (blank 2 0xAA), tt))))) (refused 11 2 2 2, (_, (_, (_, (_, (blank 2 0xAA, _))))))
+unfolding planning tableAnswer runAnswer
+mark-for-the-value κs arrivals = (tt, λ p. seen (λ r. r .value) refl (p .0))
+
+-- `kieferntuch_plan`: refusal 11 of Q on two processors without its value
+value-left-out : (κs : _) → RuledOut planner.ended planner.Reads.Pre planner.Reads.Post κs
+    (lent 1 (written (Q 2 4)), (0, (lent 2 (blank 30 0), tt))) (answer 11 2 2 0, (_, (_, (blank 30 0, _))))
+unfolding planning planAnswer
+value-left-out κs = (tt, λ p. seen (λ r. r .value) refl (p .0))
+
+-- `kieferntuch_plan`: the value, 6, of the first of two trials, and not that of the last, 3
+value-of-the-first-trial : (κs : _) → RuledOut planner.ended planner.Reads.Pre planner.Reads.Post κs
+    (lent 1 (written (3, PCP, (5, 1, 3, 1, 1) ∷ (5, 1, 3, 1, 2) ∷ [])), (0, (lent 2 (blank 30 0), tt))) (answer 11 2 2 6, (_, (_, (blank 30 0, _))))
+unfolding planning planAnswer
+value-of-the-first-trial κs = (tt, λ p. seen (λ r. r .value) refl (p .0))

@@ -54,7 +54,7 @@ returns-3 c =
     let e = c .before .before .before .before .before .before .before .before .before .before .read-table .ensures in
     let a = c .before .before .before .before .before .before .before .before .before .before .before .before .before .args in
     let room = ltb-false (length (a .sheet .now)) (a .at + (12 + 9 * r .table .n)) (not-true _ (sym (c .before .before .before .before .before .before .has-room .ensures) ∙ not-false _ (c .before .before .before .before .before .if2 .left))) in
-    rw (sym e, c .reply3 .ensures) (no-plan r (a .at) (a .sheet .now) (omega arith) room (c .before .before .before .before .plan-table .result) (c .before .before .before .before .plan-table .ensures) (c .before .before .outcome .given .0 .0) (c .before .before .outcome .given .0 .1 .0) (c .before .before .outcome .given .1))
+    rw (sym e, c .reply3 .ensures) (no-plan r (a .at) (a .sheet .now) (omega arith) room (c .before .before .before .before .plan-table .result) (c .before .before .before .before .plan-table .ensures) (c .before .before .outcome .given .0 .0) (c .before .before .outcome .given .0 .1 .0) (c .before .before .outcome .given .0 .1 .1 .0) (c .before .before .outcome .given .1))
 
 enum-told : tie.Need-enum-told
 enum-told c = search needs

@@ -36,7 +36,7 @@ returns-2 c =
     let r = c .before .before .before .before .before .before .before .before .before .read-table in
     let x = c .before .before .before .before .before .plan-table in
     let o = c .before .before .before .outcome .given in
-    let e = listing-failed (r .result) (x .result) (c .before .before .before .before .before .before .before .if1 .left) (x .ensures) (o .0 .0) (o .0 .1 .0) (o .1) in
+    let e = listing-failed (r .result) (x .result) (c .before .before .before .before .before .before .before .if1 .left) (x .ensures) (o .0 .0) (o .0 .1 .0) (o .0 .1 .1 .0) (o .1) in
     (rw (sym (r .ensures), e) (c .put-refused2 .ensures .0), omega arith)
 
 enum-told : tie.Need-enum-told

@@ -53,7 +53,7 @@ returns-2 c =
     let e = c .before .before .before .before .before .before .before .before .read-table .ensures in
     let a = c .before .before .before .before .before .before .before .before .before .before .before .before .args in
     let xs = arrivalsOf (a .flat .now) (a .count) in
-    rw (sym e, c .refused2 .ensures) (no-plan r xs (a .from) (a .ticks) (a .trace .now) (omega (arith, c .before .before .before .before .before .before .if1 .left)) (c .before .before .before .before .plan-table .result) (c .before .before .before .before .plan-table .ensures) (c .before .before .outcome .given .0 .0) (c .before .before .outcome .given .0 .1 .0) (c .before .before .outcome .given .1))
+    rw (sym e, c .refused2 .ensures) (no-plan r xs (a .from) (a .ticks) (a .trace .now) (omega (arith, c .before .before .before .before .before .before .if1 .left)) (c .before .before .before .before .plan-table .result) (c .before .before .before .before .plan-table .ensures) (c .before .before .outcome .given .0 .0) (c .before .before .outcome .given .0 .1 .0) (c .before .before .outcome .given .0 .1 .1 .0) (c .before .before .outcome .given .1))
 
 enum-told : tie.Need-enum-told
 enum-told c = search needs
