@@ -78,11 +78,12 @@ fn counted(inputs: &[Vec<u8>]) -> Counts {
     let mut tally = Tally::new(&COUNTED);
     for input in inputs {
         let text = list(input);
+        let words: Vec<&str> = text.split_whitespace().collect();
         let planned = text.starts_with("plan ");
-        let digits = |count| text.split_whitespace().any(|word| word.len() == count);
+        let digits = |count| words.iter().any(|word| word.len() == count);
         let resources = text.lines().filter(|line| line.starts_with("resource "));
-        let refused = |words: &str| text.starts_with(&format!("refused {words} "));
-        let marked = |mark: &str| refused("11") && text.ends_with(&format!(" {mark}\n"));
+        let refused = |number: &str| words[..2] == ["refused", number];
+        let marked = |mark: &str| refused("11") && words[3] == mark;
         tally.count([
             true,
             planned,

@@ -174,12 +174,19 @@ fn words((answer, sheet): &Outcome) -> String {
 fn fast_outcome(call: &Call) -> Outcome {
     let mut sheet = call.sheet.clone();
     let answer = fast::plan_into(&call.table, call.at, &mut sheet);
-    let answer = match (answer.number, answer.names, answer.mark) {
-        (0, 0, 0) => Ok(()),
-        (number, names, mark) => Err(Refusal {
+    let fast::Answer {
+        number,
+        names,
+        mark,
+        value,
+    } = answer;
+    let answer = match (number, names, mark, value) {
+        (0, 0, 0, 0) => Ok(()),
+        _ => Err(Refusal {
             number,
             names,
             mark,
+            value,
         }),
     };
     (answer, sheet)
