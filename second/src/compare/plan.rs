@@ -378,7 +378,7 @@ mod tests {
         assert!(judge("test", &call, &right, Ok(wrong)).is_err());
         assert!(judge("test", &call, &right, Err("no answer".to_string())).is_err());
     }
-    /// Each way that may be there with the last member up to its limit for the first above it.
+    /// The last member up to the limit, if the value is not the first of all.
     fn below(way: &Way) -> u64 {
         let members = &way.members;
         members[members.len().saturating_sub(2)]
@@ -406,7 +406,7 @@ mod tests {
         }
     }
 
-    fn without_limit_s(failure: &Failure) -> u64 {
+    fn loosely(failure: &Failure) -> u64 {
         match &failure.end {
             End::Section { way, .. } => way.last(),
             End::Stages { loose, .. } => nearest(loose).value(),
@@ -435,7 +435,7 @@ mod tests {
         ("D2's where D1 broke", |failure| {
             of_stages(failure, |all| all.iter().map(two_first).min())
         }),
-        ("T for the limit of a stage", without_limit_s),
+        ("T for the limit of a stage", loosely),
         ("that of the trial before", |failure| {
             failure.before.unwrap_or(failure.value())
         }),
