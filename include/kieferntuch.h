@@ -10,11 +10,11 @@ extern "C" {
 #endif
 
 /* A refusal: its number (0: none), what it names (a row counted from 1, or 0), its mark, and its value. Mark and value are
-   0 but for refusal 11, where the value says by how much it failed. A bound is searched for through a sequence: it starts
-   with the length, for a section together with what may block it, and goes on with the demand at the last value; a bound
-   is missing when a member of it is above the limit. With mark 1 the value is the first member above T, the limit of the
-   section. With mark 2 it is the smallest, over the processors for stages, of the first member above T - S of stage one's
-   sequence, else of stage two's, else of the sum D1 + S + D2, which is then above T. */
+   0 but for refusal 11, where the value is what broke the limit. A bound is searched for through a sequence: it starts
+   with the length, for a section with what may block it added, and goes on with the demand at the last value. There is no
+   bound if a member is above the limit, which is T for a section and T - S for a stage. With mark 1 the value is the first
+   member above T in the section's sequence. With mark 2 it is the smallest, over the processors for stages, of the first
+   member above T - S in stage one's sequence, else in stage two's, else the sum D1 + S + D2, which is then above T. */
 typedef struct {
     uint32_t number;
     uint32_t names;
