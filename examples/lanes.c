@@ -20,9 +20,9 @@ static const uint8_t table[] = {
 /* Each arrival's tick, its row, and the actual lengths of stage one, section and stage two. */
 static const kieferntuch_arrival arrivals[] = {{0, 2, 2, 3, 2}, {4, 1, 1, 2, 1}};
 
-static int print_refused(uint32_t number, uint32_t names, uint32_t mark)
+static int print_refused(uint32_t number, uint32_t names, uint32_t mark, uint32_t value)
 {
-    printf("refused %u %u %u\n", number, names, mark);
+    printf("refused %u %u %u %u\n", number, names, mark, value);
     return 1;
 }
 
@@ -88,13 +88,13 @@ int main(void)
     uint8_t plan[12 + 9 * ROWS];
     kieferntuch_answer planned = kieferntuch_plan(table, sizeof table, 0, plan, sizeof plan);
     if (planned.number != 0)
-        return print_refused(planned.number, planned.names, planned.mark);
+        return print_refused(planned.number, planned.names, planned.mark, planned.value);
 
     uint8_t trace[PROCESSORS * TICKS];
     size_t count = sizeof arrivals / sizeof arrivals[0];
     kieferntuch_ran ran = kieferntuch_run(table, sizeof table, arrivals, count, 0, TICKS, trace, sizeof trace);
     if (ran.number != 0)
-        return print_refused(ran.number, ran.names, ran.mark);
+        return print_refused(ran.number, ran.names, ran.mark, ran.value);
 
     print_lanes(trace);
     print_answer(plan, &ran);

@@ -4,12 +4,13 @@
 
 use std::fmt;
 
-/// A refusal: its number (0: none), the row that it names or 0, and its mark.
+/// A refusal: its number (0: none), the row that it names or 0, its mark, and its value.
 #[repr(C)]
 struct Answer {
     number: u32,
     names: u32,
     mark: u32,
+    value: u32,
 }
 
 // In edition 2024: unsafe extern "C".
@@ -32,7 +33,8 @@ const P: [u8; 35] = [
     0x00, 0x02, 0x80, 0x00, 0x04, 0x00, 0x00, 0x50, 0x00, 0x04, 0x10, // 40, 4, 5, 4, resource 2
 ];
 
-/// One processor serves the resource, and on the other there is no room for row 2.
+/// One processor serves the resource, and on the other there is no room for row 2: its stages have 8
+/// ticks, and with row 1's in front of it, its stage one alone would take 12.
 #[rustfmt::skip]
 const Q: [u8; 24] = [
     0x04, 0x20, // 2 rows, 2 processors, PCP
@@ -104,7 +106,8 @@ impl fmt::Display for Plan {
 
 impl fmt::Display for Answer {
     fn fmt(&self, out: &mut fmt::Formatter<'_>) -> fmt::Result {
-        writeln!(out, "refused {} {} {}", self.number, self.names, self.mark)
+        let Answer { number, names, mark, value } = self;
+        writeln!(out, "refused {} {} {} {}", number, names, mark, value)
     }
 }
 

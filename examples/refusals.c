@@ -1,5 +1,5 @@
 /* Gives every refusal, one call after another: case P, and one thing of it or of the call changed.
-   Each line has the call in short words, and the number, what it names, and the mark.
+   Each line has the call in short words, and the number, what it names, the mark, and the value.
 
        gcc examples/refusals.c -Iinclude target/staticlib/libkieferntuch.a -o refusals && ./refusals
 
@@ -56,6 +56,7 @@ static const change to_plan[] = {
     {"plan: a sheet of 38 bytes", NOTHING, 0, 38},
     {"plan: A of row 2 is 10, and row 1 may wait 9 ticks", A(2), 10, 39},
     {"plan: C2 of row 1 is 6, and 1 + 4 + 6 is above T", C2(1), 6, 39},
+    {"plan: C2 of row 3 is 31, and 31 + 8 + 8 is above 35", C2(3), 31, 39},
 };
 
 /* What a run is handed beside case P. The first arrival is row 2 at tick 0, and row 1 comes behind it. */
@@ -80,9 +81,9 @@ static const call to_run[] = {
 
 #define COUNT(list) (sizeof(list) / sizeof *(list))
 
-static void show(const char *words, uint32_t number, uint32_t names, uint32_t mark)
+static void show(const char *words, uint32_t number, uint32_t names, uint32_t mark, uint32_t value)
 {
-    printf("%-52s%6u%6u%6u\n", words, number, names, mark);
+    printf("%-52s%6u%6u%6u%6u\n", words, number, names, mark, value);
 }
 
 /* Sets a field to a value, the most significant bit first. */
@@ -107,7 +108,7 @@ static void show_read(const change *change)
     uint8_t table[sizeof p];
     changed(table, change);
     kieferntuch_answer answer = kieferntuch_read(table, change->length);
-    show(change->words, answer.number, answer.names, answer.mark);
+    show(change->words, answer.number, answer.names, answer.mark, answer.value);
 }
 
 static void show_plan(const change *change)
@@ -116,7 +117,7 @@ static void show_plan(const change *change)
     uint8_t sheet[39];
     changed(table, change);
     kieferntuch_answer answer = kieferntuch_plan(table, sizeof table, 0, sheet, change->length);
-    show(change->words, answer.number, answer.names, answer.mark);
+    show(change->words, answer.number, answer.names, answer.mark, answer.value);
 }
 
 static void show_run(const call *call)
@@ -125,7 +126,7 @@ static void show_run(const call *call)
     static uint8_t trace[3 * 4097];
     arrivals[1] = call->second;
     kieferntuch_ran ran = kieferntuch_run(p, sizeof p, arrivals, call->count, 0, call->ticks, trace, call->trace);
-    show(call->words, ran.number, ran.names, ran.mark);
+    show(call->words, ran.number, ran.names, ran.mark, ran.value);
 }
 
 static void show_reads(void)
@@ -148,7 +149,7 @@ static void show_runs(void)
 
 int main(void)
 {
-    printf("%-52s%6s%6s%6s\n", "", "number", "names", "mark");
+    printf("%-52s%6s%6s%6s%6s\n", "", "number", "names", "mark", "value");
     show_reads();
     show_plans();
     show_runs();

@@ -5,7 +5,7 @@
    (src/product.rs) asks it over pipes until the input ends.
 
    Request: a byte that names the function, a byte of flags, the table's length and its bytes.
-   Function 'r' is kieferntuch_read. Its answer: number, names and mark, 4 bytes each.
+   Function 'r' is kieferntuch_read. Its answer: number, names, mark and value, 4 bytes each.
    Function 'p' is kieferntuch_plan. In its request follow the number `at`, the sheet's length and
    its bytes; in its answer follow the sheet's bytes as the call has left them.
    Function 'u' is kieferntuch_run. In its request follow the count of arrivals, tick, row and three
@@ -32,7 +32,7 @@ ptrdiff_t write(int file, const void *bytes, size_t count);
 void *malloc(size_t count);
 void free(void *bytes);
 
-enum { HEADER = 2, NUMBER = 8, ANSWER = 12, WORST = 192, RAN = ANSWER + 4 * WORST + 3 * NUMBER };
+enum { HEADER = 2, NUMBER = 8, ANSWER = 16, WORST = 192, RAN = ANSWER + 4 * WORST + 3 * NUMBER };
 enum { NULL_TABLE = 1, NULL_OUT = 2, NULL_ARRIVALS = 4 };
 enum { GUARD = 64, FILL_STEP = 37 };
 enum { GOOD = 0, BROKEN = 1, FAILED = 2 };
@@ -102,6 +102,7 @@ static int put_answer(kieferntuch_answer answer)
     number_to(bytes, answer.number, 4);
     number_to(bytes + 4, answer.names, 4);
     number_to(bytes + 8, answer.mark, 4);
+    number_to(bytes + 12, answer.value, 4);
     return put(bytes, ANSWER);
 }
 
@@ -111,6 +112,7 @@ static int put_ran(const kieferntuch_ran *ran)
     number_to(bytes, ran->number, 4);
     number_to(bytes + 4, ran->names, 4);
     number_to(bytes + 8, ran->mark, 4);
+    number_to(bytes + 12, ran->value, 4);
     for (size_t place = 0; place < WORST; place++)
         number_to(bytes + ANSWER + 4 * place, ran->worst[place], 4);
     number_to(bytes + RAN - 3 * NUMBER, ran->jobs, NUMBER);

@@ -40,6 +40,12 @@ enum { CALLS = sizeof calls / sizeof *calls };
 enum { ROWS = 64, PROCESSORS = 16, TICKS = 4096, ARRIVALS = 4096, END_OF_TIME = 1000000 };
 enum { TABLE = 2 + 11 * ROWS, SHEET = 12 + 9 * ROWS, TRACE = PROCESSORS * TICKS };
 
+/* Where the numbers of the answers stand; nothing lies between them. */
+_Static_assert(offsetof(kieferntuch_answer, value) == 12 && sizeof(kieferntuch_answer) == 16, "an answer of 4 numbers");
+_Static_assert(offsetof(kieferntuch_ran, value) == 12 && offsetof(kieferntuch_ran, worst) == 16 &&
+                   offsetof(kieferntuch_ran, jobs) == 784 && sizeof(kieferntuch_ran) == 808,
+               "an answer of 4 numbers, 192 responses and 3 counts");
+
 #define SEED 0x9e3779b97f4a7c15u
 #define ABOVE ((size_t)1 << 32)
 
@@ -189,7 +195,8 @@ static void lend_out(const call *call, side side, uint8_t fill)
 
 static kieferntuch_ran as_ran(kieferntuch_answer answer)
 {
-    return (kieferntuch_ran){.number = answer.number, .names = answer.names, .mark = answer.mark};
+    return (kieferntuch_ran){
+        .number = answer.number, .names = answer.names, .mark = answer.mark, .value = answer.value};
 }
 
 /* Lends what the function takes, and calls it. */
@@ -208,8 +215,9 @@ static kieferntuch_ran ask(const call *call, function function, side side, uint8
 
 static void print_ran(const char *words, const kieferntuch_ran *ran)
 {
-    printf("%s: number %u, names %u, mark %u, jobs %llu, run %llu, owed %llu, worst", words, ran->number, ran->names,
-           ran->mark, (unsigned long long)ran->jobs, (unsigned long long)ran->run, (unsigned long long)ran->owed);
+    printf("%s: number %u, names %u, mark %u, value %u, jobs %llu, run %llu, owed %llu, worst", words, ran->number,
+           ran->names, ran->mark, ran->value, (unsigned long long)ran->jobs, (unsigned long long)ran->run,
+           (unsigned long long)ran->owed);
     for (size_t place = 0; place < sizeof ran->worst / sizeof *ran->worst; place++)
         printf(" %u", ran->worst[place]);
     printf("\n");
@@ -219,8 +227,8 @@ static void judge_answer(const call *call, const kieferntuch_ran *ran)
 {
     const kieferntuch_ran *answer = &call->answer;
     if (ran->number == answer->number && ran->names == answer->names && ran->mark == answer->mark &&
-        ran->jobs == answer->jobs && ran->run == answer->run && ran->owed == answer->owed &&
-        memcmp(ran->worst, answer->worst, sizeof ran->worst) == 0)
+        ran->value == answer->value && ran->jobs == answer->jobs && ran->run == answer->run &&
+        ran->owed == answer->owed && memcmp(ran->worst, answer->worst, sizeof ran->worst) == 0)
         return;
     print_ran("answer", ran);
     print_ran("has to be", answer);
@@ -375,10 +383,10 @@ static void try_large_plans(void)
 {
     call plan = {"plan", PLAN, LARGE, ON(0, SHEET), WRITES(large_plan, SHEET)};
     call between = {"plan at 7", PLAN, LARGE, ON(7, SHEET + 7), WRITES(large_plan, SHEET)};
-    call cut = {"sheet a byte short", PLAN, LARGE, ON(0, SHEET - 1), REFUSED(10, 0, 0)};
-    call cut_between = {"sheet a byte short behind 7", PLAN, LARGE, ON(7, SHEET + 6), REFUSED(10, 0, 0)};
-    call longer = {"a byte over", ANY, CUT(large_table, TABLE + 1), REFUSED(5, 0, 0)};
-    call shorter = {"a byte short", ANY, CUT(large_table, TABLE - 1), REFUSED(5, 0, 0)};
+    call cut = {"sheet a byte short", PLAN, LARGE, ON(0, SHEET - 1), REFUSED(10, 0, 0, 0)};
+    call cut_between = {"sheet a byte short behind 7", PLAN, LARGE, ON(7, SHEET + 6), REFUSED(10, 0, 0, 0)};
+    call longer = {"a byte over", ANY, CUT(large_table, TABLE + 1), REFUSED(5, 0, 0, 0)};
+    call shorter = {"a byte short", ANY, CUT(large_table, TABLE - 1), REFUSED(5, 0, 0, 0)};
     call read = {"read", READ, LARGE};
     try_functions(&plan);
     try_functions(&between);
@@ -399,9 +407,9 @@ static void try_large_runs(void)
                  WINDOW(END_OF_TIME - TICKS, TICKS, TRACE), WRITES(large_trace, TRACE),
                  RAN(ARRIVALS - 16, ARRIVALS, 0, 0)};
     call past = {"run past the last tick", RUN, LARGE, ARRIVING(large_arrivals),
-                 WINDOW(END_OF_TIME - TICKS + 1, TICKS, TRACE), REFUSED(12, 0, 0)};
+                 WINDOW(END_OF_TIME - TICKS + 1, TICKS, TRACE), REFUSED(12, 0, 0, 0)};
     call cut = {"trace a byte short", RUN, LARGE, ARRIVING(large_arrivals), WINDOW(0, TICKS, TRACE - 1),
-                REFUSED(13, 0, 0)};
+                REFUSED(13, 0, 0, 0)};
     make_large_answer(&first.answer);
     make_large_answer(&last.answer);
     make_large_arrivals(0);
@@ -427,7 +435,7 @@ static void try_every_tick(void)
     }
     call most = {"4,096 arrivals", RUN, ONE, .arrivals = each, .arrival_count = ARRIVALS, WINDOW(0, TICKS, 2 * TICKS),
                  WRITES(trace, 2 * TICKS), RAN(ARRIVALS - 1, ARRIVALS, 0, 1)};
-    call over = {"4,097 arrivals", RUN, ONE, ARRIVING(each), WINDOW(0, TICKS, 2 * TICKS), REFUSED(14, 0, 0)};
+    call over = {"4,097 arrivals", RUN, ONE, ARRIVING(each), WINDOW(0, TICKS, 2 * TICKS), REFUSED(14, 0, 0, 0)};
     try_functions(&most);
     try_functions(&over);
 }
@@ -452,7 +460,7 @@ static void hold(int good, const char *what)
 
 static int is(kieferntuch_ran ran, uint32_t number)
 {
-    return ran.number == number && ran.names == 0 && ran.mark == 0;
+    return ran.number == number && ran.names == 0 && ran.mark == 0 && ran.value == 0;
 }
 
 /* Bytes up to 2^32 and some behind, all 0; only the first and those behind may be written. */

@@ -9,8 +9,8 @@
    every one of them.
    Output: the length of a text and the text, which says how this program was built; for each round
    the nanoseconds that the product and the Rust code took for all calls; and for each call the
-   answer, number, names and mark of 4 bytes each, and the sheet, of the product and then of the Rust
-   code. A run's answer goes on with 192 responses of 4 bytes each, jobs, run and owed, and the trace
+   answer, number, names, mark and value of 4 bytes each, and the sheet, of the product and then of the
+   Rust code. A run's answer goes on with 192 responses of 4 bytes each, jobs, run and owed, and the trace
    takes the sheet's place. All other numbers have 8 bytes. The lowest byte comes first.
 
    A round is one pass over all calls by each of the two; which of them begins changes from round to
@@ -205,18 +205,19 @@ static void fill(void)
         work.out.bytes[place] = UNTOUCHED;
 }
 
-static void put_refusal(uint32_t number, uint32_t names, uint32_t mark)
+static void put_refusal(uint32_t number, uint32_t names, uint32_t mark, uint32_t value)
 {
     put_number(number, 4);
     put_number(names, 4);
     put_number(mark, 4);
+    put_number(value, 4);
 }
 
 static void put_plan(side side, const call *call)
 {
     fill();
     kieferntuch_answer answer = plan(side, call);
-    put_refusal(answer.number, answer.names, answer.mark);
+    put_refusal(answer.number, answer.names, answer.mark, answer.value);
     put(work.out.bytes, work.out.length);
 }
 
@@ -224,7 +225,7 @@ static void put_run(side side, const call *call)
 {
     fill();
     kieferntuch_ran ran = run(side, call);
-    put_refusal(ran.number, ran.names, ran.mark);
+    put_refusal(ran.number, ran.names, ran.mark, ran.value);
     for (size_t place = 0; place < WORST; place++)
         put_number(ran.worst[place], 4);
     put_number(ran.jobs, NUMBER);

@@ -1,4 +1,4 @@
-//! Saying no: the number of a refusal, what it names, and its mark.
+//! Saying no: the number of a refusal, what it names, its mark, and its value.
 
 use std::fmt;
 
@@ -10,6 +10,8 @@ pub struct Refusal {
     pub names: u32,
     /// 1 or 2 with number 11, otherwise 0.
     pub mark: u32,
+    /// With number 11 how far it went beyond the limit, "0 for every other number".
+    pub value: u32,
 }
 
 impl Refusal {
@@ -24,12 +26,19 @@ impl Refusal {
             number,
             names: names as u32,
             mark: 0,
+            value: 0,
         }
     }
 }
 
 impl fmt::Display for Refusal {
     fn fmt(&self, f: &mut fmt::Formatter) -> fmt::Result {
-        write!(f, "refused {} {} {}", self.number, self.names, self.mark)
+        let Refusal {
+            number,
+            names,
+            mark,
+            value,
+        } = self;
+        write!(f, "refused {number} {names} {mark} {value}")
     }
 }

@@ -168,13 +168,15 @@ fn answered(rest: &mut &[u8]) -> Result<Outcome, String> {
     let number = u32::from_le_bytes(array(rest)?);
     let names = u32::from_le_bytes(array(rest)?);
     let mark = u32::from_le_bytes(array(rest)?);
+    let value = u32::from_le_bytes(array(rest)?);
     let sheet = part(rest, SHEET_BYTES)?.to_vec();
-    let answer = match (number, names, mark) {
-        (0, 0, 0) => Ok(()),
+    let answer = match (number, names, mark, value) {
+        (0, 0, 0, 0) => Ok(()),
         _ => Err(Refusal {
             number,
             names,
             mark,
+            value,
         }),
     };
     Ok((answer, sheet))
@@ -214,7 +216,7 @@ pub mod tests {
         let mut bytes = said_first(ROUNDS as u64);
         for (answer, sheet) in &group.outcomes {
             let no = answer.err().unwrap_or(Refusal::plain(0));
-            let numbers = [no.number, no.names, no.mark].map(u32::to_le_bytes);
+            let numbers = [no.number, no.names, no.mark, no.value].map(u32::to_le_bytes);
             for _ in 0..2 {
                 bytes.extend(numbers.concat());
                 bytes.extend(sheet);
@@ -251,7 +253,7 @@ pub mod tests {
     fn a_wrong_half_is_seen() {
         let [group, ..] = groups(&mut Random::new(2, "bench"), 2);
         let right = right(&group);
-        let answers = 2 * group.tables.len() * (12 + SHEET_BYTES);
+        let answers = 2 * group.tables.len() * (16 + SHEET_BYTES);
         for place in right.len() - answers..right.len() {
             let mut wrong = right.clone();
             wrong[place] ^= 1;

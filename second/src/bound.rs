@@ -1,4 +1,5 @@
-//! The demand of a section or a stage, and the least t that equals it, found in two ways.
+//! The demand of a section or a stage; the least t that equals it, found in two ways; and, where it
+//! is missing, the value that broke the limit.
 
 /// One better-ranked task's part in a demand: its period, and what each release brings.
 #[derive(Clone, Debug)]
@@ -26,6 +27,27 @@ pub fn least(own: u64, terms: &[Term], limit: u64) -> Option<u64> {
     } else {
         by_walking(own, terms, limit)
     }
+}
+
+/// The least t, or, "where a bound is missing", what "broke the limit".
+pub fn bound(own: u64, terms: &[Term], limit: u64) -> Result<u64, u64> {
+    least(own, terms, limit).ok_or_else(|| {
+        let value = broke(own, terms, limit);
+        value.expect("a member above the limit, where no t up to it equals its demand")
+    })
+}
+
+/// "the value that broke the limit: the first member above it of the sequence"; none if there is no
+/// such member.
+pub fn broke(own: u64, terms: &[Term], limit: u64) -> Option<u64> {
+    sequence(own, terms).find(|&member| member > limit)
+}
+
+/// The sequence "that starts with the length plus B and goes on with the demand at the last value",
+/// as long as that is another value.
+pub fn sequence(own: u64, terms: &[Term]) -> impl Iterator<Item = u64> + '_ {
+    let goes_on = move |&last: &u64| Some(demand(own, terms, last)).filter(|&next| next != last);
+    std::iter::successors(Some(own), goes_on)
 }
 
 /// The first way, by the definition: t = 1, 2, 3, .. up to the limit.
@@ -94,5 +116,38 @@ mod tests {
         let full = terms(&[(1, 1)]);
         assert_eq!(by_trying(1, &full, 5_000), None);
         assert_eq!(by_walking(1, &full, 5_000), None);
+        // Each member is the last one and 1 more.
+        assert_eq!(bound(1, &full, 5_000), Err(5_001));
+    }
+
+    #[test]
+    fn the_sequence_ends_with_the_least_t() {
+        let nine = terms(&[(10, 9)]);
+        let members: Vec<u64> = sequence(7, &nine).collect();
+        assert_eq!(members, [7, 16, 25, 34, 43, 52, 61, 70]);
+        assert_eq!(sequence(7, &[]).collect::<Vec<_>>(), [7]);
+    }
+
+    /// The first member above the limit, be it the first of all or one far behind.
+    #[test]
+    fn the_value_that_broke_the_limit() {
+        let nine = terms(&[(10, 9)]);
+        let wanted = [
+            (0, 7),
+            (6, 7),
+            (7, 16),
+            (15, 16),
+            (16, 25),
+            (60, 61),
+            (61, 70),
+            (69, 70),
+        ];
+        for (limit, value) in wanted {
+            assert_eq!(bound(7, &nine, limit), Err(value), "limit {limit}");
+        }
+        assert_eq!((bound(7, &nine, 70), broke(7, &nine, 70)), (Ok(70), None));
+        // 25 + 3 × 9 at once, and not 25 + 9: three releases are in the first member already.
+        assert_eq!(bound(25, &nine, 51), Err(52));
+        assert_eq!(bound(25, &nine, 33), Err(52));
     }
 }

@@ -1,7 +1,7 @@
 //! Checks of this program against itself on random tables: the two ways of the least t, and what
 //! has to be true of every run of a planned table.
 
-use crate::bound::{by_trying, by_walking, Term};
+use crate::bound::{broke, by_trying, by_walking, demand, Term};
 use crate::plan::{homes, plan, section_demand, trials, Plan};
 use crate::random::{arrivals, large_table, small_table, Random};
 use crate::rank::Ranks;
@@ -14,8 +14,9 @@ const LARGE_TABLES: usize = 12;
 /// What a check has seen, in words.
 type Seen = Result<String, String>;
 
-/// Every bound that planning a table could ask for is the same in both ways; on small tables, and
-/// on a few with periods so long that planning never tries every t.
+/// Every bound that planning a table could ask for is the same in both ways, and just where it is
+/// missing a value broke the limit; on small tables, and on a few with periods so long that planning
+/// never tries every t.
 pub fn two_ways(seed: u64) -> Seen {
     let mut random = Random::new(seed, "two ways");
     let (mut found, mut missing) = (0, 0);
@@ -45,12 +46,22 @@ pub fn two_ways(seed: u64) -> Seen {
 fn agreed(own: u64, terms: &[Term], limit: u64) -> Result<Option<u64>, String> {
     let tried = by_trying(own, terms, limit);
     let walked = by_walking(own, terms, limit);
-    if tried == walked {
-        return Ok(tried);
+    let told = |why| format!("least t of {own} with {terms:?} up to {limit}: {why}");
+    if tried != walked {
+        return Err(told(format!("tried {tried:?}, walked {walked:?}")));
     }
-    Err(format!(
-        "least t of {own} with {terms:?} up to {limit}: tried {tried:?}, walked {walked:?}"
-    ))
+    let value = broke(own, terms, limit);
+    match value {
+        None if tried.is_some() => Ok(tried),
+        Some(value) if tried.is_none() && breaks(own, terms, limit, value) => Ok(tried),
+        _ => Err(told(format!("{tried:?}, and {value:?} broke it"))),
+    }
+}
+
+/// Whether a search could have come to this value from one up to the limit.
+fn breaks(own: u64, terms: &[Term], limit: u64, value: u64) -> bool {
+    let asked = |t| demand(own, terms, t) == value;
+    value > limit && (value == own || (own..=limit).any(asked))
 }
 
 /// The demands of all sections in all trials, and of all stages among some better-ranked tasks.

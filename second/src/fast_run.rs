@@ -33,14 +33,15 @@ pub struct Arrival {
     pub lengths: [u32; 3],
 }
 
-/// The refusal's number (0: none, and the trace is written), what it names, and its mark; the worst
-/// responses, three for each row; jobs ended, units run, units owed.
+/// The refusal's number (0: none, and the trace is written), what it names, its mark, and its value;
+/// the worst responses, three for each row; jobs ended, units run, units owed.
 #[repr(C)]
 #[derive(Clone, Copy, Debug, PartialEq, Eq)]
 pub struct Ran {
     pub number: u32,
     pub names: u32,
     pub mark: u32,
+    pub value: u32,
     pub worst: [u32; 3 * ROWS],
     pub jobs: u64,
     pub run: u64,
@@ -52,6 +53,7 @@ impl Ran {
         number: 0,
         names: 0,
         mark: 0,
+        value: 0,
         worst: [0; 3 * ROWS],
         jobs: 0,
         run: 0,
@@ -63,6 +65,7 @@ impl Ran {
             number: no.number,
             names: no.names,
             mark: no.mark,
+            value: no.value,
             ..Ran::NOTHING
         }
     }
@@ -95,20 +98,20 @@ fn checked_run(
     trial.plan(&table, &load)?;
     let end = from.saturating_add(ticks);
     if ticks > MOST_TICKS || end > END_OF_TIME as usize {
-        return Err(refused(12, 0, 0));
+        return Err(refused(12, 0));
     }
     let Some(part) = trace.get_mut(..table.m * ticks) else {
-        return Err(refused(13, 0, 0));
+        return Err(refused(13, 0));
     };
     if arrivals.len() > MOST_ARRIVALS {
-        return Err(refused(14, 0, 0));
+        return Err(refused(14, 0));
     }
     let places = places(&table);
     check(&table, &places, arrivals)?;
     let mut machine = Machine::new(&table, &load, &trial);
     if let Err(row) = machine.steps(&places, arrivals, from as u32, end as u32, part) {
         part.fill(0);
-        return Err(refused(19, row, 0));
+        return Err(refused(19, row));
     }
     Ok(machine.ran())
 }
@@ -130,7 +133,7 @@ fn check(table: &Table, places: &[u8; ROWS], arrivals: &[Arrival]) -> Result<(),
     for (position, arrival) in (1..).zip(arrivals) {
         let row = arrival.row.wrapping_sub(1) as usize;
         if row >= table.n {
-            return Err(refused(15, position, 0));
+            return Err(refused(15, position));
         }
         let place = usize::from(places[row]) % ROWS;
         let task = &table.tasks[place];
@@ -143,7 +146,7 @@ fn check(table: &Table, places: &[u8; ROWS], arrivals: &[Arrival]) -> Result<(),
             _ => 0,
         };
         if number != 0 {
-            return Err(refused(number, position, 0));
+            return Err(refused(number, position));
         }
         before = (arrival.tick, arrival.row);
         ready[place] = arrival.tick + task.period;

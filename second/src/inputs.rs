@@ -393,6 +393,7 @@ fn random_bytes(random: &mut Random) -> Vec<u8> {
 #[cfg(test)]
 mod tests {
     use super::*;
+    use crate::answer::Refusal;
     use crate::table::read;
 
     #[test]
@@ -416,7 +417,7 @@ mod tests {
                 rows: vec![row],
             };
             let refusal = read(&table.bytes()).expect_err("a bad row");
-            assert_eq!((refusal.number, refusal.names), (number, 1));
+            assert_eq!(refusal, Refusal::naming(number, 1));
         }
     }
 

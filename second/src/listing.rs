@@ -11,7 +11,7 @@ pub const TAKEN: usize = 707;
 pub fn list(input: &[u8]) -> String {
     match lines(&input[..input.len().min(TAKEN)]) {
         Ok(lines) => lines.iter().map(|line| format!("{line}\n")).collect(),
-        // "A refusal prints one line: refused, number, what it names, mark."
+        // "A refusal prints one line: refused, number, what it names, mark." It "ends with the value".
         Err(refusal) => format!("{refusal}\n"),
     }
 }

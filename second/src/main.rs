@@ -11,10 +11,11 @@
 //!         Holds the paper's own figures and checks this program against itself.
 //!     second compare --product COMMAND [--list COMMAND] [--seed N] [--inputs N]
 //!         The same, and then compares the product with this program: its reader on N inputs or
-//!         more, its planner on some 210,000, its listing program, if one is given, on some 1,000,
-//!         and its run on some 25,000. And it holds more than 5,000 runs of planned tables to the
-//!         bounds, with arrivals that are aimed at them. A COMMAND is a path, or words separated by
-//!         spaces. Both programs are x86-64 code, so after second/build it is
+//!         more, its planner on 370,000, of which more than 200,000 are refused with 11, its listing
+//!         program, if one is given, on some 1,000, and its run on some 25,000. And it holds more
+//!         than 5,000 runs of planned tables to the bounds, with arrivals that are aimed at them. A
+//!         COMMAND is a path, or words separated by spaces. Both programs are x86-64 code, so after
+//!         second/build it is
 //!         --product "tools/run target/second/product" --list "tools/run target/bin/list"
 //!         in the repository's root.
 //!     second bench --half COMMAND [--half COMMAND ..] [--seed N]

@@ -1,6 +1,7 @@
 //! The paper's "Numbers to hold it to", one by one, against figures typed from the paper and from
-//! its amendment "Blocking is a tick too long", or worked out by hand where that changes them; and
-//! one case for each of its other rules that a run of plain figures would not touch.
+//! its amendments "Blocking is a tick too long" and "By how much it failed", or worked out by hand
+//! where these change them; and one case for each of its other rules that a run of plain figures
+//! would not touch.
 
 use crate::answer::Refusal;
 use crate::listing::list;
@@ -13,7 +14,7 @@ use std::fmt::Debug;
 
 type Figure = (&'static str, fn() -> Result<(), String>);
 
-const FIGURES: [Figure; 28] = [
+const FIGURES: [Figure; 37] = [
     ("P's bytes", p_bytes),
     ("P's listing", p_listing),
     ("P's section bounds under PCP", p_sections_pcp),
@@ -24,6 +25,15 @@ const FIGURES: [Figure; 28] = [
     ("Q with a longer stage two", q_longer),
     ("two full sections", full_sections),
     ("one row without a resource", one_row),
+    ("Q on two processors with a longer stage two", q_two_longer),
+    ("a value behind three members", fourth_member),
+    ("a value that is the first member", first_member),
+    ("stage two breaks its limit", stage_two_broke),
+    ("the three bounds break the period", sum_broke),
+    ("the smallest of three processors", middle_smallest),
+    ("stage one counts before stage two", stage_one_first),
+    ("the value of the last trial", last_trials_value),
+    ("the value beside a run", run_refused),
     ("resources by weight", by_weight),
     ("trials one after the other", further_trials),
     ("P runs 8 ticks", p_runs_8),
@@ -86,11 +96,12 @@ fn places(raw: &RawTable) -> Result<Vec<[u64; 4]>, String> {
     Ok(plan.places.iter().map(numbers).collect())
 }
 
-fn refused(number: u32, names: u32, mark: u32) -> Refusal {
+fn refused(number: u32, names: u32, mark: u32, value: u32) -> Refusal {
     Refusal {
         number,
         names,
         mark,
+        value,
     }
 }
 
@@ -146,8 +157,10 @@ fn p_plan_bytes() -> Result<(), String> {
     same(&sheet[12..21], &row_1[..])
 }
 
+/// Row 2 has S = 2, so that its stages have 10 − 2 = 8. D1 on processor 2: 4, then 4 + (4 + 4) = 12.
 fn q_two() -> Result<(), String> {
-    same(planned(&q(2, 4)), Err(refused(11, 2, 2)))
+    same(planned(&q(2, 4)), Err(refused(11, 2, 2, 12)))?;
+    same(list(&q(2, 4).bytes()), "refused 11 2 2 12\n".to_string())
 }
 
 fn q_three() -> Result<(), String> {
@@ -158,16 +171,115 @@ fn q_longer() -> Result<(), String> {
     same(places(&q(3, 5))?, vec![[2, 4, 1, 5], [3, 4, 2, 4]])
 }
 
+/// B of row 1 is 3 − 1, and 3 + 2 is at once above 4.
 fn full_sections() -> Result<(), String> {
     let table = raw::table(2, PCP, &[(4, 0, 3, 0, 1), (4, 0, 3, 0, 1)]);
-    same(planned(&table), Err(refused(11, 1, 1)))?;
-    same(list(&table.bytes()), "refused 11 1 1\n".to_string())
+    same(planned(&table), Err(refused(11, 1, 1, 5)))?;
+    same(list(&table.bytes()), "refused 11 1 1 5\n".to_string())
 }
 
 fn one_row() -> Result<(), String> {
     let table = raw::table(2, PCP, &[(1, 1, 0, 0, 0)]);
     same(planned(&table).map(|plan| plan.sync), Ok(0))?;
     same(places(&table)?, vec![[1, 1, 0, 0]])
+}
+
+/// As above, but the term of row 1 is 4 + 5: 4, then 4 + 9 = 13.
+fn q_two_longer() -> Result<(), String> {
+    same(planned(&q(2, 5)), Err(refused(11, 2, 2, 13)))
+}
+
+/// Two sections on processor 1, the longer one with the longer period.
+fn two_sections(protocol: u64) -> RawTable {
+    raw::table(2, protocol, &[(30, 0, 9, 0, 2), (10, 0, 8, 0, 1)])
+}
+
+/// Row 2 is ranked first. Under PCP the ceiling of resource 2 is rank 2, so nothing is in its way.
+/// Row 1 has no B, and the term of row 2 is 8 every 10 ticks: 9, 9 + 8 = 17, 9 + 2 × 8 = 25, and
+/// 9 + 3 × 8 = 33 is above 30. (The next are 41 and 49, the least t.)
+fn fourth_member() -> Result<(), String> {
+    same(planned(&two_sections(PCP)), Err(refused(11, 1, 1, 33)))
+}
+
+/// Under NPP row 1 may be in the way of row 2 for 9 − 1 ticks, and 8 + 8 is at once above 10.
+/// And in P with A = 9 in row 2, row 1 has S = 2 + 8 = 10, which leaves nothing for its stages: its
+/// C1 = 1 is at once above 0, on whatever processor.
+fn first_member() -> Result<(), String> {
+    same(planned(&two_sections(NPP)), Err(refused(11, 2, 1, 16)))?;
+    let mut p = p(PCP);
+    p.rows[1].a = 9;
+    same(planned(&p), Err(refused(11, 1, 2, 1)))
+}
+
+/// Row 1 has S = 1 + 1 and takes 3 + 2 + 3 of 10 ticks; on processor 2 its term is 6 every 10. Row 2
+/// has S = 2 + 1 = 3, so that its stages have 20 − 3 = 17. D1: 2, then 2 + 6 = 8, and 8 it is.
+fn two_on_one(c2_of_row_2: u64) -> RawTable {
+    raw::table(2, PCP, &[(10, 3, 1, 3, 1), (20, 2, 2, c2_of_row_2, 1)])
+}
+
+/// D2: 6, then 6 + 6 = 12, then 6 + 2 × 6 = 18 is above 17 (and not above T).
+fn stage_two_broke() -> Result<(), String> {
+    same(planned(&two_on_one(6)), Err(refused(11, 2, 2, 18)))
+}
+
+/// D2: 4, then 4 + 6 = 10, and 10 it is; but 8 + 3 + 10 is 21. With 3 in place of 4 it is 20, and
+/// row 2 fits.
+fn sum_broke() -> Result<(), String> {
+    same(planned(&two_on_one(4)), Err(refused(11, 2, 2, 21)))?;
+    same(places(&two_on_one(3))?, vec![[2, 3, 2, 3], [2, 8, 3, 9]])
+}
+
+/// Each of the first three rows is too long to go behind another, so that it has a processor of its
+/// own. Row 4 may take 20 ticks:
+/// on 1, behind 10 every 10, D1 is 4, 4 + 10 = 14, and 4 + 2 × 10 = 24 is too much;
+/// on 2, behind 6 every 11, D1 is 4 + 6 = 10 and D2 is 5 + 6 = 11, and their sum of 21 is too much;
+/// on 3, behind 9 every 13, D1 is 4 + 9 = 13, and D2 is 5, 5 + 9 = 14, and 5 + 2 × 9 = 23 is too much.
+fn middle_smallest() -> Result<(), String> {
+    let alone = [(10, 10, 0, 0, 0), (11, 6, 0, 0, 0), (13, 9, 0, 0, 0)];
+    same(
+        places(&raw::table(3, NPP, &alone))?,
+        vec![[1, 10, 0, 0], [2, 6, 0, 0], [3, 9, 0, 0]],
+    )?;
+    let rows = [&alone[..], &[(20, 4, 0, 5, 0)]].concat();
+    same(
+        planned(&raw::table(3, NPP, &rows)),
+        Err(refused(11, 4, 2, 21)),
+    )
+}
+
+/// Rows 1 and 2 have a processor each, and row 3 may take 15 ticks. On 1, behind 7 every 10, a stage of
+/// 3 has 3 + 7 = 10; one of 4 has 4 + 7 = 11, and then 4 + 2 × 7 = 18 is too much; one of 7 has
+/// 7 + 7 = 14, and then 7 + 2 × 7 = 21 is. On 2, behind 8 every 11, it is 3 + 8 = 11; 12 and then 20;
+/// 15 and then 23.
+fn stage_one_first() -> Result<(), String> {
+    let with = |c1, c2| {
+        let rows = [(10, 7, 0, 0, 0), (11, 0, 0, 8, 0), (15, c1, 0, c2, 0)];
+        planned(&raw::table(2, PCP, &rows))
+    };
+    // D1 alone is missing on both; then D2 alone; then none, and the sums are 20 and 22.
+    same(with(4, 3), Err(refused(11, 3, 2, 18)))?;
+    same(with(3, 4), Err(refused(11, 3, 2, 18)))?;
+    same(with(3, 3), Err(refused(11, 3, 2, 20)))?;
+    // Where both are missing, D1 counts, be it the smaller or the larger value.
+    same(with(4, 7), Err(refused(11, 3, 2, 18)))?;
+    same(with(7, 4), Err(refused(11, 3, 2, 21)))
+}
+
+/// With one processor for sections, row 2 has S = 5 + 5 = 10, and its C1 = 4 is at once above 0. With
+/// two it has S = 5, and on processor 3, the only one left, D1 is 4, then 4 + 4 = 8 is above 5. The
+/// last trial counts, though the first came nearer.
+fn last_trials_value() -> Result<(), String> {
+    let on = |m| raw::table(m, PCP, &[(10, 4, 5, 0, 1), (10, 4, 5, 0, 2)]);
+    same(planned(&on(2)), Err(refused(11, 2, 2, 4)))?;
+    same(planned(&on(3)), Err(refused(11, 2, 2, 8)))
+}
+
+/// A run is refused as its table is, before its other numbers are looked at.
+fn run_refused() -> Result<(), String> {
+    let answer = |raw: &RawTable| run(&raw.bytes(), &[], 0, 4_097, &mut []).err();
+    same(answer(&q(2, 4)), Some(refused(11, 2, 2, 12)))?;
+    same(answer(&two_sections(PCP)), Some(refused(11, 1, 1, 33)))?;
+    same(answer(&p(PCP)), Some(refused(12, 0, 0, 0)))
 }
 
 /// Heaviest first, to the least loaded; the lower number wins a tie; weights are rounded up.
@@ -187,10 +299,11 @@ fn by_weight() -> Result<(), String> {
     same([rounded[1], rounded[2]], [2, 1])
 }
 
-/// Two sections too long for one processor: the second trial plans them, if m allows for one.
+/// Two sections too long for one processor, where row 2 is at 3 and then at 3 + 3 = 6 of 4 ticks: the
+/// second trial plans them, if m allows for one.
 fn further_trials() -> Result<(), String> {
     let on = |m| raw::table(m, PCP, &[(4, 0, 3, 0, 1), (4, 0, 3, 0, 2)]);
-    same(planned(&on(2)), Err(refused(11, 2, 1)))?;
+    same(planned(&on(2)), Err(refused(11, 2, 1, 6)))?;
     same(planned(&on(3)).map(|plan| plan.sync), Ok(2))?;
     same(places(&on(3))?, vec![[3, 0, 3, 0], [3, 0, 3, 0]])
 }
@@ -253,18 +366,19 @@ fn p_two_arrivals() -> Result<(), String> {
 fn longest_period() -> Result<(), String> {
     let of = |t| raw::table(2, PCP, &[(t, 1, 0, 0, 0)]);
     same(planned(&of(1_000_000)).is_ok(), true)?;
-    same(planned(&of(1_000_001)), Err(refused(6, 1, 0)))
+    same(planned(&of(1_000_001)), Err(refused(6, 1, 0, 0)))
 }
 
 fn empty_and_long() -> Result<(), String> {
-    same(list(&[]), "refused 1 0 0\n".to_string())?;
+    same(list(&[]), "refused 1 0 0 0\n".to_string())?;
     let mut long = raw::table(16, NPP, &[(9, 1, 1, 1, 16); 64]).bytes();
     same(long.len(), 706)?;
-    same(list(&long), "refused 11 10 1\n".to_string())?;
+    // Row 10 is at 1 and then at 1 + 9 × 1.
+    same(list(&long), "refused 11 10 1 10\n".to_string())?;
     long.extend([0; 500]);
-    same(list(&long), "refused 5 0 0\n".to_string())?;
+    same(list(&long), "refused 5 0 0 0\n".to_string())?;
     long[1] |= 1;
-    same(list(&long), "refused 4 0 0\n".to_string())
+    same(list(&long), "refused 4 0 0 0\n".to_string())
 }
 
 fn around_the_sheet() -> Result<(), String> {
@@ -280,9 +394,9 @@ fn around_the_sheet() -> Result<(), String> {
 fn sheet_too_short() -> Result<(), String> {
     let mut sheet = [0xee; 30];
     let answer = |sheet: &mut [u8], at| plan_into(&q(2, 4).bytes(), sheet, at).err();
-    same(answer(&mut sheet, 1), Some(refused(10, 0, 0)))?;
-    same(answer(&mut sheet, usize::MAX), Some(refused(10, 0, 0)))?;
-    same(answer(&mut sheet, 0), Some(refused(11, 2, 2)))?;
+    same(answer(&mut sheet, 1), Some(refused(10, 0, 0, 0)))?;
+    same(answer(&mut sheet, usize::MAX), Some(refused(10, 0, 0, 0)))?;
+    same(answer(&mut sheet, 0), Some(refused(11, 2, 2, 12)))?;
     same(sheet, [0xee; 30])
 }
 
@@ -358,13 +472,13 @@ fn bad_calls() -> Result<(), String> {
         run(&bytes, arrivals, f, w, part).map(|done| done.run)
     };
     same(answer(&[], 995_904, 4_096, 12_288), Ok(0))?;
-    same(answer(&[], 0, 4_097, 12_288), Err(refused(12, 0, 0)))?;
-    same(answer(&many, 999_999, 2, 0), Err(refused(12, 0, 0)))?;
-    same(answer(&[], u64::MAX, 1, 3), Err(refused(12, 0, 0)))?;
+    same(answer(&[], 0, 4_097, 12_288), Err(refused(12, 0, 0, 0)))?;
+    same(answer(&many, 999_999, 2, 0), Err(refused(12, 0, 0, 0)))?;
+    same(answer(&[], u64::MAX, 1, 3), Err(refused(12, 0, 0, 0)))?;
     same(answer(&[], 0, 0, 0), Ok(0))?;
-    same(answer(&many, 0, 5, 14), Err(refused(13, 0, 0)))?;
-    same(answer(&many, 0, 5, 15), Err(refused(14, 0, 0)))?;
-    same(answer(&many[..4_096], 0, 5, 15), Err(refused(15, 1, 0)))
+    same(answer(&many, 0, 5, 14), Err(refused(13, 0, 0, 0)))?;
+    same(answer(&many, 0, 5, 15), Err(refused(14, 0, 0, 0)))?;
+    same(answer(&many[..4_096], 0, 5, 15), Err(refused(15, 1, 0, 0)))
 }
 
 fn bad_arrivals() -> Result<(), String> {
@@ -376,7 +490,7 @@ fn bad_arrivals() -> Result<(), String> {
         let kept = trace == [0xee; 12];
         (answer, kept)
     };
-    let no = |number| (Err(refused(number, 2, 0)), true);
+    let no = |number| (Err(refused(number, 2, 0, 0)), true);
     same(answer(arrival(0, 0, [9; 3])), no(15))?;
     same(answer(arrival(9, 4, [0; 3])), no(15))?;
     same(answer(arrival(4, 1, [9; 3])), no(16))?;

@@ -1,7 +1,7 @@
 //! Blocking, weights, trials, and the plan, with refusal 11.
 
 use crate::answer::Refusal;
-use crate::bound::{least, Term};
+use crate::bound::{bound, Term};
 use crate::rank::Ranks;
 use crate::table::{Protocol, Table, Task, LAST_RESOURCE};
 
@@ -27,29 +27,32 @@ pub struct Plan {
     pub places: Vec<Place>,
 }
 
-/// "A trial that ends without a plan hands back the task and the mark."
-#[derive(Clone, Copy, Debug, PartialEq, Eq)]
+/// "A trial that ends without a plan hands back the task and the mark", and the value. How far it
+/// came is there for those who count what is behind the value.
+#[derive(Clone, Debug, PartialEq, Eq)]
 pub struct Failed {
     pub row: usize,
     pub mark: u32,
+    pub value: u64,
+    pub places: Vec<Place>,
 }
 
 /// "The first [trial] that succeeds is the plan." Otherwise 11: "every trial failed".
 pub fn plan(table: &Table) -> Result<Plan, Refusal> {
     let ranks = Ranks::of(table);
-    let mut last = Failed { row: 0, mark: 0 };
+    let mut last = Refusal::plain(11);
     for sync in trials(table) {
         match trial(table, &ranks, sync) {
             Ok(plan) => return Ok(plan),
-            Err(failed) => last = failed,
+            // "row and mark of the last trial", and its value.
+            Err(failed) => {
+                last.names = failed.row as u32;
+                last.mark = failed.mark;
+                last.value = failed.value as u32;
+            }
         }
     }
-    // "row and mark of the last trial"
-    Err(Refusal {
-        number: 11,
-        names: last.row as u32,
-        mark: last.mark,
-    })
+    Err(last)
 }
 
 /// The counts of synchronization processors that are tried, in order.
@@ -69,18 +72,31 @@ pub fn trial(table: &Table, ranks: &Ranks, sync: usize) -> Result<Plan, Failed> 
     // Step 2: "All S are worked out in rank order. The first missing one ends the trial, mark 1."
     for row in ranks.rows_in_order() {
         match section_bound(table, ranks, &homes, row) {
-            Some(bound) => places[row - 1].s = bound,
-            None => return Err(Failed { row, mark: 1 }),
+            Ok(bound) => places[row - 1].s = bound,
+            // "Refusal 11 carries it for mark 1."
+            Err(value) => {
+                return Err(Failed {
+                    row,
+                    mark: 1,
+                    value,
+                    places,
+                })
+            }
         }
     }
     // Step 3: "In rank order each task goes to the lowest-numbered application processor that it
     // fits. The first that fits none ends the trial, mark 2."
     for row in ranks.rows_in_order() {
-        let found = (sync + 1..=table.processors)
-            .find_map(|processor| fit(table, ranks, &places, row, processor));
-        match found {
-            Some(place) => places[row - 1] = place,
-            None => return Err(Failed { row, mark: 2 }),
+        match first_fit(table, ranks, &places, row, sync) {
+            Ok(place) => places[row - 1] = place,
+            Err(value) => {
+                return Err(Failed {
+                    row,
+                    mark: 2,
+                    value,
+                    places,
+                })
+            }
         }
     }
     Ok(Plan {
@@ -88,6 +104,25 @@ pub fn trial(table: &Table, ranks: &Ranks, sync: usize) -> Result<Plan, Failed> 
         homes,
         places,
     })
+}
+
+/// The lowest-numbered application processor that a task fits, or "For mark 2 it carries the
+/// smallest, over the application processors" of what keeps it from each.
+fn first_fit(
+    table: &Table,
+    ranks: &Ranks,
+    places: &[Place],
+    row: usize,
+    sync: usize,
+) -> Result<Place, u64> {
+    let mut values = Vec::new();
+    for processor in sync + 1..=table.processors {
+        match fit(table, ranks, places, row, processor) {
+            Ok(place) => return Ok(place),
+            Err(value) => values.push(value),
+        }
+    }
+    Err(values.into_iter().min().expect("s is at most m − 1"))
 }
 
 /// "the sum of ceil(A × 1,000,000 / T) over its users"
@@ -163,19 +198,20 @@ pub fn section_demand(table: &Table, ranks: &Ranks, homes: &Homes, row: usize) -
     (own, terms)
 }
 
-/// S of the task in `row`; "It must be at most T. S is 0 without a section."
-fn section_bound(table: &Table, ranks: &Ranks, homes: &Homes, row: usize) -> Option<u64> {
+/// S of the task in `row`; "It must be at most T. S is 0 without a section." Or "the value that broke
+/// the limit", which "is T for a section".
+fn section_bound(table: &Table, ranks: &Ranks, homes: &Homes, row: usize) -> Result<u64, u64> {
     let task = table.task(row);
     if !task.has_section() {
-        return Some(0);
+        return Ok(0);
     }
     let (own, terms) = section_demand(table, ranks, homes, row);
-    least(own, &terms, task.period)
+    bound(own, &terms, task.period)
 }
 
 /// "for each better-ranked task i on the same application processor the term ceil(t / T_i) ×
 /// (C1_i + C2_i)"
-fn stage_terms(
+pub fn stage_terms(
     table: &Table,
     ranks: &Ranks,
     places: &[Place],
@@ -196,30 +232,34 @@ fn stage_terms(
 
 /// D1 or D2: "the same with C1 (or C2) in place of A, no B"; "A stage of table length 0 has bound
 /// 0."
-fn stage_bound(length: u64, terms: &[Term], period: u64) -> Option<u64> {
+fn stage_bound(length: u64, terms: &[Term], limit: u64) -> Result<u64, u64> {
     if length == 0 {
-        return Some(0);
+        return Ok(0);
     }
-    least(length, terms, period)
+    bound(length, terms, limit)
 }
 
-/// "A task fits a processor when D1, D2 exist with D1 + S + D2 ≤ T."
+/// "A task fits a processor when D1, D2 exist with D1 + S + D2 ≤ T." Otherwise "the value that broke
+/// D1, else D2, else the sum D1 + S + D2".
 fn fit(
     table: &Table,
     ranks: &Ranks,
     places: &[Place],
     row: usize,
     processor: usize,
-) -> Option<Place> {
+) -> Result<Place, u64> {
     let task = table.task(row);
     let terms = stage_terms(table, ranks, places, row, processor);
-    let d1 = stage_bound(task.c1, &terms, task.period)?;
-    let d2 = stage_bound(task.c2, &terms, task.period)?;
     let s = places[row - 1].s;
-    if d1 + s + d2 > task.period {
-        return None;
+    // "T − S for a stage"
+    let limit = task.period - s;
+    let d1 = stage_bound(task.c1, &terms, limit)?;
+    let d2 = stage_bound(task.c2, &terms, limit)?;
+    let sum = d1 + s + d2;
+    if sum > task.period {
+        return Err(sum);
     }
-    Some(Place {
+    Ok(Place {
         processor,
         d1,
         s,

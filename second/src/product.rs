@@ -16,7 +16,7 @@ use std::time::Duration;
 const BATCH: usize = 256;
 /// How long the product may say nothing.
 const PATIENCE: Duration = Duration::from_secs(30);
-const ANSWER_BYTES: usize = 12;
+const ANSWER_BYTES: usize = 16;
 pub const RAN_BYTES: usize = ANSWER_BYTES + 4 * 192 + 3 * 8;
 /// As many bytes of answers are read at once, and so many parts may wait to be taken.
 const PART_BYTES: usize = 1 << 16;
@@ -129,12 +129,13 @@ impl Product {
     /// An error if the product does not answer.
     pub fn answer(&mut self) -> Result<Result<(), Refusal>, String> {
         let bytes = self.take(ANSWER_BYTES)?;
-        Ok(match [0, 4, 8].map(|at| number_32(&bytes, at)) {
-            [0, 0, 0] => Ok(()),
-            [number, names, mark] => Err(Refusal {
+        Ok(match [0, 4, 8, 12].map(|at| number_32(&bytes, at)) {
+            [0, 0, 0, 0] => Ok(()),
+            [number, names, mark, value] => Err(Refusal {
                 number,
                 names,
                 mark,
+                value,
             }),
         })
     }
@@ -272,6 +273,7 @@ pub fn read_ran(bytes: &[u8]) -> Ran {
         number: number_32(bytes, 0),
         names: number_32(bytes, 4),
         mark: number_32(bytes, 8),
+        value: number_32(bytes, 12),
         worst: [0; 192],
         jobs: number_64(bytes, counts),
         run: number_64(bytes, counts + 8),
@@ -297,20 +299,21 @@ mod tests {
     use super::*;
     use crate::run::Arrival;
 
-    /// A request with two bytes is as long as an answer, and `cat` sends it back.
+    /// A request with six bytes is as long as an answer, and `cat` sends it back.
     #[test]
     fn requests_and_answers() -> Result<(), String> {
         let mut echo = Product::start("cat")?;
-        echo.ask_to_read(&[vec![0x06, 0x30], vec![0, 0]]);
-        let answer = |mark| {
+        echo.ask_to_read(&[vec![0x06, 0x30, 1, 2, 3, 4], vec![0; 6]]);
+        let answer = |mark, value| {
             Err(Refusal {
-                number: 0x0002_0072,
+                number: 0x0006_0072,
                 names: 0,
                 mark,
+                value,
             })
         };
-        assert_eq!(echo.answer()?, answer(0x3006_0000));
-        assert_eq!(echo.answer()?, answer(0));
+        assert_eq!(echo.answer()?, answer(0x3006_0000, 0x0403_0201));
+        assert_eq!(echo.answer()?, answer(0, 0));
         echo.finish()
     }
 
@@ -374,14 +377,14 @@ mod tests {
         let ran = read_ran(&bytes);
         let all = |number: u64| (number % 256) * 0x0101_0101;
         assert_eq!(
-            (ran.number, ran.names, ran.mark),
-            (0, 0x0101_0101, 0x0202_0202)
+            [ran.number, ran.names, ran.mark, ran.value].map(u64::from),
+            [0, 1, 2, 3].map(all)
         );
         assert_eq!(
             [ran.worst[0], ran.worst[191]].map(u64::from),
-            [all(3), all(194)]
+            [all(4), all(195)]
         );
-        let counts = [195, 197, 199].map(|place| all(place + 1) << 32 | all(place));
+        let counts = [196, 198, 200].map(|place| all(place + 1) << 32 | all(place));
         assert_eq!([ran.jobs, ran.run, ran.owed], counts);
     }
 
@@ -391,14 +394,14 @@ mod tests {
         echo.ask_to_read_null();
         assert!(echo.finish().is_err());
         let mut echo = Product::start("cat")?;
-        echo.ask_to_read(&[vec![0; 3]]);
+        echo.ask_to_read(&[vec![0; 7]]);
         assert!(echo.answer().is_ok());
         assert!(echo.finish().is_err());
-        let mut cut = Product::start("head -c 17")?;
-        cut.ask_to_read(&vec![vec![0; 2]; 2]);
+        let mut cut = Product::start("head -c 21")?;
+        cut.ask_to_read(&vec![vec![0; 6]; 2]);
         assert!(cut.answer().is_ok());
         let error = cut.answer().expect_err("half of an answer");
-        assert!(error.starts_with("5 of 12"), "{error}");
+        assert!(error.starts_with("5 of 16"), "{error}");
         Ok(())
     }
 

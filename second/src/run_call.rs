@@ -104,7 +104,10 @@ fn ran(done: Result<Done, Refusal>) -> Ran {
             }
             (ran.jobs, ran.run, ran.owed) = (done.jobs, done.run, done.owed);
         }
-        Err(no) => (ran.number, ran.names, ran.mark) = (no.number, no.names, no.mark),
+        Err(no) => {
+            (ran.number, ran.names) = (no.number, no.names);
+            (ran.mark, ran.value) = (no.mark, no.value);
+        }
     }
     ran
 }

@@ -7,7 +7,7 @@ use crate::raw::{self, RawTable};
 use crate::run::Arrival;
 use crate::run_call::RunCall;
 use crate::table::{read, Table};
-use crate::workloads::{busiest, is_planned, largest_within, under};
+use crate::workloads::{busiest, is_planned, largest_within, under, FAILING};
 
 const END_OF_TIME: u64 = 1_000_000;
 const MOST_TICKS: u64 = 4_096;
@@ -406,10 +406,11 @@ fn refused_table(random: &mut Random) -> RunCall {
     call
 }
 
-/// A small table that is refused by 11 with this mark.
+/// A table that is refused by 11 with this mark, of any kind of these.
 fn unplanned(random: &mut Random, mark: u32) -> Vec<u8> {
     loop {
-        let table = small_table(random).bytes();
+        let kind = random.within(1, FAILING.len() as u64) as usize;
+        let table = (FAILING[kind - 1].make)(random);
         if fast::plan_into(&table, 0, &mut [0; 588]).mark == mark {
             return table;
         }

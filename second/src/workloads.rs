@@ -71,6 +71,50 @@ pub const KINDS: [Kind; 11] = [
     },
 ];
 
+/// Tables that are refused with 11, all of them.
+pub const FAILING: [Kind; 8] = [
+    Kind {
+        name: "small tables, refused with 11",
+        share: 26,
+        make: |random| failing(random, small),
+    },
+    Kind {
+        name: "sections too long",
+        share: 24,
+        make: |random| failing(random, crowded_sections),
+    },
+    Kind {
+        name: "a processor for each task and one task more",
+        share: 22,
+        make: |random| failing(random, one_too_many),
+    },
+    Kind {
+        name: "just past the edge",
+        share: 8,
+        make: |random| failing(random, past_the_edge),
+    },
+    Kind {
+        name: "values behind many members",
+        share: 6,
+        make: |random| failing(random, many_members),
+    },
+    Kind {
+        name: "several trials",
+        share: 8,
+        make: |random| failing(random, several_trials),
+    },
+    Kind {
+        name: "tables of any size and load, refused with 11",
+        share: 5,
+        make: |random| failing(random, loaded),
+    },
+    Kind {
+        name: "64 rows on 16 processors, refused with 11",
+        share: 1,
+        make: |random| failing(random, largest),
+    },
+];
+
 /// How the rows of a table are to look.
 #[derive(Clone, Copy)]
 struct Shape {
@@ -282,7 +326,105 @@ fn part_of(table: &RawTable, parts: u64) -> RawTable {
 
 /// As the fast planner has it: it helps to choose tables, and judges nothing.
 pub fn is_planned(table: &[u8]) -> bool {
-    fast::plan_into(table, 0, &mut [0; 588]).number == 0
+    fast_number(table) == 0
+}
+
+fn fast_number(table: &[u8]) -> u32 {
+    fast::plan_into(table, 0, &mut [0; 588]).number
+}
+
+/// The first of these tables that is refused with 11.
+fn failing(random: &mut Random, make: fn(&mut Random) -> Vec<u8>) -> Vec<u8> {
+    loop {
+        let table = make(random);
+        if fast_number(&table) == 11 {
+            return table;
+        }
+    }
+}
+
+/// The shortest and the longest period of a table, which is four times as long.
+fn some_periods(random: &mut Random) -> (u64, u64) {
+    let longest = random.pick(&[12, 40, 160, 800, 12_000, 120_000, LONGEST_PERIOD]);
+    let longest = random.within(longest / 2, longest);
+    (longest / 4, longest)
+}
+
+/// Sections that take about all of the time of one or two processors, and stages that take little.
+fn crowded_sections(random: &mut Random) -> Vec<u8> {
+    let (shortest, longest) = some_periods(random);
+    let n = random.pick(&[2, 3, 4, 6, 14]);
+    let n = random.within(n.min(2), n);
+    let resources = random.within(1, 3);
+    let share = random.within(50, 130) / n;
+    let rows: Vec<_> = (0..n)
+        .map(|_| {
+            let t = random.within(shortest, longest);
+            let a = random.within(1, (2 * t * share / 100).clamp(1, t));
+            let [c1, c2] = [0, 0].map(|_| random.within(0, (t - a) / 20));
+            (t, c1, a, c2, random.within(1, resources))
+        })
+        .collect();
+    raw::table(random.within(2, 4), random.within(0, 1), &rows).bytes()
+}
+
+/// Tasks that take most of a processor each, in any two stages, and a last one, with or without a
+/// section, that may fit none of them.
+fn one_too_many(random: &mut Random) -> Vec<u8> {
+    let (shortest, longest) = some_periods(random);
+    let tasks = random.pick(&[1, 2, 3, 3, 4, 6, 12]);
+    let with_section = random.once_in(2);
+    let least = random.pick(&[30, 50, 70]);
+    let mut rows = Vec::new();
+    for _ in 0..tasks {
+        let t = random.within(shortest, longest);
+        let sum = (t * random.within(least, 100) / 100).max(1);
+        let some = random.within(0, sum);
+        let c1 = random.pick(&[0, sum, some]);
+        rows.push((t, c1, 0, sum - c1, 0));
+    }
+    let t = random.within(longest, 2 * longest).min(LONGEST_PERIOD);
+    let a = match with_section {
+        true => random.within(1, (t / 2).max(1)),
+        false => 0,
+    };
+    let [c1, c2] = [0, 0].map(|_| random.within(0, (t - a) / 2));
+    rows.push((t, c1.max(1), a, c2.min(t - a - c1.max(1)), a.min(1)));
+    let m = tasks + a.min(1);
+    raw::table(m.max(2), random.within(0, 1), &rows).bytes()
+}
+
+/// The first step of `at_the_edge` that is not planned, of few rows.
+fn past_the_edge(random: &mut Random) -> Vec<u8> {
+    let shape = Shape {
+        n: random.within(2, 10),
+        m: random.within(2, 5),
+        load: random.within(60, 100),
+        ..Shape::any(random)
+    };
+    let full = shape.table(random);
+    let planned = last_planned(&full, |table| is_planned(&table.bytes()));
+    part_of(&full, planned + 1).bytes()
+}
+
+/// As `long_search`, and not quite as long.
+fn many_members(random: &mut Random) -> Vec<u8> {
+    let long = random.pick(&[100, 400, 2_000]);
+    search_of(random, long)
+}
+
+/// Resources enough for several trials, and sections and stages too long for all of them.
+fn several_trials(random: &mut Random) -> Vec<u8> {
+    let shape = Shape {
+        n: random.within(3, 12),
+        m: random.within(3, 6),
+        load: random.within(30, 90),
+        section: random.pick(&[30, 60, 90]),
+        resources: random.within(2, 5),
+        without: 10,
+        ..Shape::any(random)
+    };
+    shape.table(random).bytes()
 }
 
 /// One to three periods in all: ranks go by rows.
@@ -348,8 +490,12 @@ fn long_sections(random: &mut Random) -> Vec<u8> {
 /// A processor that is taken nearly all the time, or all the time, and a long wait there.
 fn long_search(random: &mut Random) -> Vec<u8> {
     let long = random.pick(&[3_000, 30_000, 100_000]);
+    search_of(random, long)
+}
+
+fn search_of(random: &mut Random, long: u64) -> Vec<u8> {
     let long = random.within(long / 2, long);
-    let period = random.within(20, 1_000);
+    let period = random.within(20.min(long / 4), 1_000.min(2 * long / 3));
     let own = (long / period).saturating_sub(random.within(0, 3)).max(1);
     let rows = match random.within(0, 6) {
         0 => vec![(period, period - 1, 0, 0, 0), (long, own, 0, 0, 0)],
@@ -402,8 +548,10 @@ mod tests {
 
     #[test]
     fn the_shares_are_hundredths() {
-        let shares = KINDS.iter().map(|kind| kind.share);
-        assert_eq!(shares.sum::<usize>(), 100);
+        for kinds in [&KINDS[..], &FAILING] {
+            let shares = kinds.iter().map(|kind| kind.share);
+            assert_eq!(shares.sum::<usize>(), 100);
+        }
     }
 
     /// How often the demand changes, from the last row's lengths on, with all other rows in it.

@@ -90,7 +90,7 @@ mod tests {
     }
 
     fn answer_bytes(ran: &Ran) -> Vec<u8> {
-        let mut numbers = vec![ran.number, ran.names, ran.mark];
+        let mut numbers = vec![ran.number, ran.names, ran.mark, ran.value];
         numbers.extend(ran.worst);
         let counts = [ran.jobs, ran.run, ran.owed];
         let mut bytes: Vec<u8> = numbers.into_iter().flat_map(u32::to_le_bytes).collect();

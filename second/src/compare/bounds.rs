@@ -133,7 +133,10 @@ impl Run {
 /// No refusal, 19 or any other, and no worst response above its bound.
 fn answer_holds(bounds: &Bounds, ran: &Ran) -> Result<(), String> {
     if ran.number != 0 {
-        return Err(format!("refused {} {} {}", ran.number, ran.names, ran.mark));
+        return Err(format!(
+            "refused {} {} {} {}",
+            ran.number, ran.names, ran.mark, ran.value
+        ));
     }
     for (row, (worst, bounds)) in (1..).zip(ran.worst.chunks(3).zip(bounds)) {
         let mut pairs = worst.iter().zip(bounds);
@@ -264,7 +267,7 @@ mod tests {
             let mut machine = Machine::new(table, &ranks, plan);
             machine.rules = rules;
             let ran = steps_by(machine, &self.call.arrivals, 0, self.call.ticks as u64);
-            let (trace, _) = ran.map_err(|row| format!("refused 19 {row} 0"))?;
+            let (trace, _) = ran.map_err(|row| format!("refused 19 {row} 0 0"))?;
             self.seen(&trace)?.holds(&bounds(plan))
         }
     }
@@ -447,7 +450,7 @@ mod tests {
         };
         assert_eq!(
             answer_holds(&bounds, &refused),
-            Err("refused 19 2 0".to_string())
+            Err("refused 19 2 0 0".to_string())
         );
     }
 }

@@ -10,7 +10,7 @@ use crate::program;
 use crate::random::{good_table_of, Random};
 use crate::raw::{self, RawTable};
 use crate::table::{self, LONGEST_PERIOD};
-use crate::workloads::{is_planned, largest, KINDS};
+use crate::workloads::{is_planned, largest, FAILING, KINDS};
 use std::process::Output;
 use std::thread;
 
@@ -18,7 +18,7 @@ use std::thread;
 const AT_ONCE: usize = 2;
 
 /// What is counted, by the text that `second list` prints and by the input.
-const COUNTED: [Counted; 19] = [
+const COUNTED: [Counted; 21] = [
     ("inputs", 1_000),
     ("planned", 300),
     ("of 64 rows and 16 resources", 30),
@@ -35,6 +35,8 @@ const COUNTED: [Counted; 19] = [
     ("9", 5),
     ("11 with mark 1", 30),
     ("11 with mark 2", 30),
+    ("11 with a value of one or two digits", 30),
+    ("11 with one of six or seven", 5),
     ("empty", 1),
     ("of 707 bytes", 5),
     ("longer", 30),
@@ -78,11 +80,13 @@ fn counted(inputs: &[Vec<u8>]) -> Counts {
     let mut tally = Tally::new(&COUNTED);
     for input in inputs {
         let text = list(input);
+        let words: Vec<&str> = text.split_whitespace().collect();
         let planned = text.starts_with("plan ");
-        let digits = |count| text.split_whitespace().any(|word| word.len() == count);
+        let digits = |count| words.iter().any(|word| word.len() == count);
         let resources = text.lines().filter(|line| line.starts_with("resource "));
-        let refused = |words: &str| text.starts_with(&format!("refused {words} "));
-        let marked = |mark: &str| refused("11") && text.ends_with(&format!(" {mark}\n"));
+        let refused = |number: &str| words[..2] == ["refused", number];
+        let marked = |mark: &str| refused("11") && words[3] == mark;
+        let valued = |least, most| refused("11") && (least..=most).contains(&words[4].len());
         tally.count([
             true,
             planned,
@@ -100,6 +104,8 @@ fn counted(inputs: &[Vec<u8>]) -> Counts {
             refused("9"),
             marked("1"),
             marked("2"),
+            valued(1, 2),
+            valued(6, 7),
             input.is_empty(),
             input.len() == TAKEN,
             input.len() > TAKEN,
@@ -114,6 +120,9 @@ fn inputs(random: &mut Random) -> Vec<Vec<u8>> {
     all.extend((1..=64).map(|n| good_table_of(random, n).bytes()));
     for kind in KINDS {
         all.extend((0..60).map(|_| (kind.make)(random)));
+    }
+    for kind in FAILING {
+        all.extend((0..12).map(|_| (kind.make)(random)));
     }
     all.extend(of_each_number(random));
     for _ in 0..50 {
@@ -206,6 +215,17 @@ mod tests {
             assert!(inputs.len() < 1_200);
             assert_eq!(counted(&inputs).enough(), Ok(()));
             assert!(counted(&inputs[..900]).enough().is_err());
+        }
+    }
+
+    /// Two rows (10, 4, 1, 4, 1) on two processors: 4, and then 12 of 8 ticks.
+    #[test]
+    fn a_wrong_value_is_seen() {
+        let q = raw::table(2, 0, &[(10, 4, 1, 4, 1); 2]).bytes();
+        let said = |line: &str| compare_all(&format!("echo {line}"), [q.clone()].iter());
+        assert_eq!(said("refused 11 2 2 12"), Ok(()));
+        for wrong in ["", " 0", " 4", " 8", " 9", " 11", " 13", " 012"] {
+            assert!(said(&format!("refused 11 2 2{wrong}")).is_err(), "{wrong}");
         }
     }
 

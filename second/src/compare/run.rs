@@ -86,10 +86,11 @@ pub fn told(call: &RunCall) -> String {
 
 fn words((ran, trace): &Outcome) -> String {
     format!(
-        "refused {} {} {}, jobs {}, run {}, owed {}\nworst {:?}\ntrace {}",
+        "refused {} {} {} {}, jobs {}, run {}, owed {}\nworst {:?}\ntrace {}",
         ran.number,
         ran.names,
         ran.mark,
+        ran.value,
         ran.jobs,
         ran.run,
         ran.owed,
@@ -165,13 +166,14 @@ mod tests {
                 "byte {place} of the trace, counted from 0, is the first other one"
             )));
         }
-        let mut wrong = vec![right.clone(); 6];
+        let mut wrong = vec![right.clone(); 7];
         wrong[0].0.number = 1;
         wrong[1].0.names = 1;
         wrong[2].0.mark = 1;
-        wrong[3].0.worst[191] = 1;
-        wrong[4].0.jobs += 1;
-        wrong[5].0.owed += 1;
+        wrong[3].0.value = 1;
+        wrong[4].0.worst[191] = 1;
+        wrong[5].0.jobs += 1;
+        wrong[6].0.owed += 1;
         assert!(wrong
             .into_iter()
             .all(|outcome| judged(Ok(outcome)).is_err()));
