@@ -1,6 +1,6 @@
--- When planning answers what: 0 exactly when one of the trials that the paper lists succeeds, 11 exactly when each of them fails; and that only
--- 11 has a mark and a value.
-use Prim.Native.Nat.{ℕ, _+_, _*_, _≤_}
+-- When planning answers what: 0 exactly when one of the trials that the paper lists succeeds, 11 exactly when each of them fails; that only 11
+-- has a mark and a value, and that the value fits 32 bits.
+use Prim.Native.Nat.{ℕ, _+_, _*_, _≤_, _<_}
 use mathlib.Core.Path.{_≡_, refl, sym, _∙_}
 use mathlib.Core.List.{List}
 use mathlib.Core.Bool.{Bool, true, false, cond}
@@ -15,6 +15,7 @@ use Rattle.plan.specs.declared.Outcome.the-variants.{Planned}
 use Rattle.plan.specs.Tasks.{weighed, tasksOf}
 use Rattle.plan.specs.Trial.{numberOf}
 use Rattle.plan.specs.Planning.{plannedOf}
+use Rattle.plan.proofs.Broke.{value-fits}
 use Rattle.plan.proofs.Exactly.{number-planned, number-failed, Succeeds, plan-exactly}
 use Rattle.run.proofs.Refusals.{Marked, whichever, outcome-marked}
 use Rattle.kieferntuch.specs.declared.Answer.{Answer}
@@ -85,3 +86,13 @@ module _ (bs : List ℕ) (at size : ℕ) where
     where
       kept : Answer → Type 0
       kept x = Marked (x .number) (x .mark) (x .value)
+
+  -- "It fits 32 bits for every table": of any bytes
+  pub value-32 : planAnswer (readingOf bs) at size .value < 4294967296
+  unfolding planAnswer
+  value-32 = go (ltb 0 (readingOf bs .number)) (short size at (readingOf bs .table .n)) refl
+    where
+      go : (a b : Bool) → ltb 0 (readingOf bs .number) ≡ a → cond a (answerOf (readingOf bs)) (cond b (answer 10 0 0 0) (outcomeAnswer out)) .value < 4294967296
+      go true b x = omega arith
+      go false true x = omega arith
+      go false false x = value-fits (readingOf bs .table) (table-good bs (readingOf bs) refl (omega (arith, ltb-false 0 (readingOf bs .number) x)))

@@ -24,16 +24,16 @@ use Rattle.plan.proofs.Ordered.{tasks-good}
 use Rattle.plan.proofs.Trials.{sections-good, stages-good, serves-small, bounds-short, trial-missing, trial-nowhere, trial-planned, first-one, last-lt, planning-trial}
 
 module _ (t : Tasks) (s : ℕ) where
-  -- the first task without a section bound, and what is known of its bound
-  abbrev late : ℕ
-  late = lacking (t .npp) (t .period) (t .a) (t .top) (homes t s) (t .n)
+  -- the first task without a section bound
+  abbrev unbound : ℕ
+  unbound = lacking (t .npp) (t .period) (t .a) (t .top) (homes t s) (t .n)
 
   -- v is the first member above T of the sequence that starts with its A + B
   abbrev pub BreaksSection : ℕ → Type 0
   BreaksSection v =
       Breaks (lackingTerms (t .npp) (t .period) (t .a) (t .top) (homes t s) (t .n))
-      (getD (t .a) late 0 + lackingB (t .npp) (t .period) (t .a) (t .top) (homes t s) (t .n))
-      (getD (t .period) late 0)
+      (getD (t .a) unbound 0 + lackingB (t .npp) (t .period) (t .a) (t .top) (homes t s) (t .n))
+      (getD (t .period) unbound 0)
       v
 
   -- v is the smallest of the values that keep the first task without a place from fitting an application processor
@@ -46,6 +46,7 @@ module _ (t : Tasks) (s : ℕ) where
       dite (decLt (sections t s .missing) (t .n)) missing
       (λ h. dite (decLt (stages t s .nowhere) (t .n)) (nowhere (omega arith)) (λ k. whole (omega arith) (omega arith)))
 
+  -- its outcome says which
   missing-is : sections t s .missing < t .n → trialOf t s .outcome ≡ Failed (getD (t .row) (sections t s .missing) 0) 1 (sections t s .value)
   missing-is l = ap (λ (x : Tried). x .outcome) (trial-missing t s l)
 

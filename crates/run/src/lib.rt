@@ -10,12 +10,13 @@ ghost use Rattle.table.specs.Good.{GoodTable};
 ghost use Rattle.arrivals.specs.Arrival.{arrivalsOf};
 ghost use Rattle.chain.specs.Release.{never};
 ghost use Rattle.machine.specs.Good.{GoodChart, Coming};
-ghost use Rattle.run.specs.Run.{refused as Run·refused, log, steppedOf, shownOf};
+ghost use Rattle.run.specs.Run.{refused as Run·refused, done as Run·done, log, steppedOf, shownOf};
 ghost use Rattle.run.specs.Answer.{badWindow, callNumber, callNames, runAnswer, traceAfter};
 ghost use Rattle.run.specs.State.{Stands, Went};
 use arrivals::Heard;
 use machine::Chart;
 use machine::Reached;
+use machine::Tally;
 use plan::Outcome;
 use table::Table;
 
@@ -46,6 +47,22 @@ fn refused(number: u32, names: u32, mark: u32, value: u32) -> Ran
         jobs: 0,
         run: 0,
         owed: 0,
+    }
+}
+
+// What a run answers that is not refused.
+fn done(worst: [u32; 192], tally: Tally) -> Ran
+    ensures { λ r. ⌜ r ≡ Run·done worst tally ⌝ }
+{
+    Ran {
+        number: 0,
+        names: 0,
+        mark: 0,
+        value: 0,
+        worst,
+        jobs: tally.jobs,
+        run: tally.run,
+        owed: tally.owed,
     }
 }
 
@@ -248,17 +265,7 @@ fn run_ticks(
         wipe(trace, size);
         return refused(19, after.late as u32 + 1, 0, 0);
     }
-    let tally = machine::count_up(&jobs, n);
-    Ran {
-        number: 0,
-        names: 0,
-        mark: 0,
-        value: 0,
-        worst,
-        jobs: tally.jobs,
-        run: tally.run,
-        owed: tally.owed,
-    }
+    done(worst, machine::count_up(&jobs, n))
 }
 
 // The refusal 12 to 18 of a call, 0 if there is none, and the position that it names.

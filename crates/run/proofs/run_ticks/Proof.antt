@@ -131,17 +131,20 @@ count-up-requires c κs =
     let st = w .stands (omega (arith, w .either, c .before .if2 .left)) in
     (p .4 .homed .few, st .whole, good-in st (p .4) (p .0))
 
+done-requires : tie.Need-done-requires
+done-requires c κs = tt
+
 same-length-3 : tie.Need-same-length-3
 same-length-3 c = search needs
 
 returns-3 : tie.Need-returns-3
 returns-3 c =
-    let a = c .before .before .before .before .before .before .before .before .before .before .before .before .before .before .before .before .before .before .before .before .before .before .before .before .before .before .before .before .before .before .before .before .before .before .args in
-    let r = c .before .before .before .before .before .before .before .before .before .before .play .ensures in
-    let none : c .before .before .before .before .before .before .before .before .before .before .play .result .late ≡ a .c .n = omega (arith, r .0 .either, c .before .before .if2 .left) in
+    let a = c .before .before .before .before .before .before .before .before .before .before .before .before .before .before .before .before .before .before .before .before .before .before .before .before .before .before .before .before .before .before .before .before .before .before .before .args in
+    let r = c .before .before .before .before .before .before .before .before .before .before .before .play .ensures in
+    let none : c .before .before .before .before .before .before .before .before .before .before .before .play .result .late ≡ a .c .n = omega (arith, r .0 .either, c .before .before .before .if2 .left) in
     let st = r .0 .stands none in
     let e = stood (a .c) (arrivalsOf (a .flat .now) (a .count)) (a .from) (a .ticks) (a .trace .now) _ _ _ _ st in
-    (ap (done _) (c .count-up .ensures) ∙ e .0, r .2 none ∙ e .1)
+    (c .done .ensures ∙ ap (done _) (c .before .count-up .ensures) ∙ e .0, r .2 none ∙ e .1)
 
 pub run-ticks-spec : {M : Type 1} → statement M
 run-ticks-spec =
@@ -178,5 +181,6 @@ run-ticks-spec =
     returns-2
     slice-aggregate-count-up
     count-up-requires
+    done-requires
     same-length-3
     returns-3)
