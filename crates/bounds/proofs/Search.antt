@@ -44,7 +44,7 @@ module _ (terms : List Term) (own : ℕ) where
       let q : first (suc limit) (meets terms own) ≡ t = first-is (suc limit) (meets terms own) t (omega arith) (λ j k. meets-no j (λ f. omega (arith, under j (omega arith)))) (meets-yes t s e) in
       rw (q, le-ltb limit t l)
 
-  -- where no time up to the limit covers there is none, and one member of the sequence is the first above it
+  -- where a member of the sequence is the first above the limit there is none, and that member is answered
   pub least-none : (limit v : ℕ) → 1 ≤ own → Breaks terms own limit v → least terms own limit ≡ Missing v
   unfolding least
   least-none limit v o b =

@@ -11,7 +11,8 @@ unfoldable pub sequence : List Term → ℕ → ℕ → ℕ
 sequence terms own zero = own
 sequence terms own (suc i) = own + demand terms (sequence terms own i)
 
--- the first member above the limit; where no bound is up to the limit, it is one of members 0 to `limit`, since each is larger than the last
+-- the place of the first member above the limit; where no bound is up to the limit, it is one of 0 to `limit`, since each member is larger
+-- than the one before
 unfoldable pub firstAbove : List Term → ℕ → ℕ → ℕ
 firstAbove terms own limit = first (suc limit) (λ i. ltb limit (sequence terms own i))
 

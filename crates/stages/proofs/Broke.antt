@@ -22,9 +22,12 @@ use Rattle.stages.specs.declared.Place.the-variants.{On, Nowhere}
 use Rattle.stages.proofs.Fitting.{fit-small, place-out}
 use Rattle.stages.proofs.Placing.{good-term}
 
--- of a task that fits none of processors s + 1 to m, no processor's value is smaller, and one has just that
-pub smallest-broke : (fit : ℕ → Fit) (s m v : ℕ) → s < m → placeAmong fit s m ≡ Nowhere v →
-    ((p : ℕ) → s < p → p ≤ m → v ≤ brokeFit (fit p)) × ((p : ℕ) × (s < p) × (p ≤ m) × (v ≡ brokeFit (fit p)))
+-- v is the smallest of the values of processors s + 1 to m: none of them is smaller, and one is just that
+abbrev IsSmallest : (ℕ → ℕ) → ℕ → ℕ → ℕ → Type 0
+IsSmallest value s m v = ((p : ℕ) → s < p → p ≤ m → v ≤ value p) × ((p : ℕ) × (s < p) × (p ≤ m) × (v ≡ value p))
+
+-- that is what a task without a place comes with
+pub smallest-broke : (fit : ℕ → Fit) (s m v : ℕ) → s < m → placeAmong fit s m ≡ Nowhere v → IsSmallest (λ p. brokeFit (fit p)) s m v
 unfolding smallestBroke
 smallest-broke fit s m v l h =
     let f : ℕ → ℕ = λ q. brokeFit (fit (s + 1 + q)) in
@@ -45,9 +48,9 @@ module _ (periods c1s c2s works sections : List ℕ) (s m n : ℕ) where
   abbrev pub stuckOn : ℕ → ℕ
   stuckOn p = brokeFit (fitOn periods c1s c2s works sections s m (placed periods c1s c2s works sections s m stuck) stuck p)
 
-  -- v is the smallest of these over processors s + 1 to m
+  -- v is the smallest of these
   abbrev pub SmallestStuck : ℕ → Type 0
-  SmallestStuck v = ((p : ℕ) → s < p → p ≤ m → v ≤ stuckOn p) × ((p : ℕ) × (s < p) × (p ≤ m) × (v ≡ stuckOn p))
+  SmallestStuck v = IsSmallest stuckOn s m v
 
   -- and so is the value
   pub nowhere-smallest : s < m → stuck < n → SmallestStuck (nowhereValue periods c1s c2s works sections s m n)
