@@ -1,5 +1,5 @@
-//! The planner and the machine that are written for speed, alone, for `half.c` to link: called as
-//! the product is.
+//! The reader, the planner and the machine that are written for speed, alone, for `half.c` to link:
+//! called as the product is.
 
 #![no_std]
 
@@ -9,6 +9,16 @@ mod fast;
 mod fast_run;
 
 use core::slice::{from_raw_parts, from_raw_parts_mut};
+
+/// # Safety
+/// The pointer is good for as many bytes as are named.
+#[no_mangle]
+pub unsafe extern "C" fn second_read(table: *const u8, table_length: usize) -> fast::Answer {
+    match fast::read(from_raw_parts(table, table_length)) {
+        Ok(_) => fast::refused(0, 0),
+        Err(no) => no,
+    }
+}
 
 /// # Safety
 /// Both pointers are good for as many bytes as are named, and the sheet is nobody else's.

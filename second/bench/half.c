@@ -1,12 +1,11 @@
 /* The C half of `second bench`: it links the product and the Rust code that is written for speed,
-   and times both in one process, on the tables that standard input brings: the two planners, or the
-   two machines.
+   and times both in one process, on the tables that standard input brings: the two readers, the two
+   planners, or the two machines.
 
-   Input: a byte, 'p' to plan or 'u' to run; how many calls, and how many rounds. To plan, then the
-   length of the sheet, and for each call the length of its table and its bytes. To run, then the
-   numbers `from` and `ticks` and the length of the trace, and for each call the length of its table
-   and its bytes, the count of its arrivals, and tick, row and three lengths of 4 bytes each for
-   every one of them.
+   Input: a byte, 'r' to read, 'p' to plan or 'u' to run; how many calls, and how many rounds. To run,
+   then the numbers `from` and `ticks`. Then the length of the sheet or the trace, 0 to read, and for
+   each call the length of its table and its bytes. To run, the count of its arrivals follows, and
+   tick, row and three lengths of 4 bytes each for every one of them.
    Output: the length of a text and the text, which says how this program was built; for each round
    the nanoseconds that the product and the Rust code took for all calls; and for each call the
    answer, number, names, mark and value of 4 bytes each, and the sheet, of the product and then of the
@@ -28,14 +27,15 @@
 ptrdiff_t read(int file, void *bytes, size_t count);
 ptrdiff_t write(int file, const void *bytes, size_t count);
 void *malloc(size_t count);
-void exit(int code);
+_Noreturn void exit(int code);
 struct timespec {
     int64_t seconds;
     int64_t nanoseconds;
 };
 int clock_gettime(int clock, struct timespec *time);
 
-/* As kieferntuch_plan and kieferntuch_run, in fast.rs. */
+/* As kieferntuch_read, kieferntuch_plan and kieferntuch_run, in fast.rs. */
+kieferntuch_answer second_read(const uint8_t *table, size_t table_length);
 kieferntuch_answer second_plan(const uint8_t *table, size_t table_length, size_t at, uint8_t *sheet,
                                size_t sheet_length);
 kieferntuch_ran second_run(const uint8_t *table, size_t table_length, const kieferntuch_arrival *arrivals,
@@ -150,6 +150,12 @@ static uint64_t now(void)
     return (uint64_t)time.seconds * 1000000000 + (uint64_t)time.nanoseconds;
 }
 
+static kieferntuch_answer read_table(side side, const call *call)
+{
+    const lent *table = &call->table;
+    return (side == PRODUCT ? kieferntuch_read : second_read)(table->bytes, table->length);
+}
+
 static kieferntuch_answer plan(side side, const call *call)
 {
     const lent *table = &call->table;
@@ -163,6 +169,12 @@ static kieferntuch_ran run(side side, const call *call)
     return (side == PRODUCT ? product_run : second_run)(table->bytes, table->length, call->arrivals,
                                                             call->arrival_count, work.from, work.ticks, work.out.bytes,
                                                             work.out.length);
+}
+
+static void read_all(side side)
+{
+    for (size_t place = 0; place < work.count; place++)
+        read_table(side, &work.calls[place]);
 }
 
 static void plan_all(side side)
@@ -205,7 +217,7 @@ static void fill(void)
         work.out.bytes[place] = UNTOUCHED;
 }
 
-static void put_refusal(uint32_t number, uint32_t names, uint32_t mark, uint32_t value)
+static void put_answer(uint32_t number, uint32_t names, uint32_t mark, uint32_t value)
 {
     put_number(number, 4);
     put_number(names, 4);
@@ -213,11 +225,17 @@ static void put_refusal(uint32_t number, uint32_t names, uint32_t mark, uint32_t
     put_number(value, 4);
 }
 
+static void put_reading(side side, const call *call)
+{
+    kieferntuch_answer answer = read_table(side, call);
+    put_answer(answer.number, answer.names, answer.mark, answer.value);
+}
+
 static void put_plan(side side, const call *call)
 {
     fill();
     kieferntuch_answer answer = plan(side, call);
-    put_refusal(answer.number, answer.names, answer.mark, answer.value);
+    put_answer(answer.number, answer.names, answer.mark, answer.value);
     put(work.out.bytes, work.out.length);
 }
 
@@ -225,7 +243,7 @@ static void put_run(side side, const call *call)
 {
     fill();
     kieferntuch_ran ran = run(side, call);
-    put_refusal(ran.number, ran.names, ran.mark, ran.value);
+    put_answer(ran.number, ran.names, ran.mark, ran.value);
     for (size_t place = 0; place < WORST; place++)
         put_number(ran.worst[place], 4);
     put_number(ran.jobs, NUMBER);
@@ -268,21 +286,34 @@ static size_t take_work(int running)
     return rounds;
 }
 
+/* What is timed, and what puts the answers. */
+static const struct kind {
+    uint8_t name;
+    void (*all)(side side);
+    void (*put)(side side, const call *call);
+} kinds[] = {{'r', read_all, put_reading}, {'p', plan_all, put_plan}, {'u', run_all, put_run}};
+
+static const struct kind *take_kind(void)
+{
+    uint8_t name;
+    take(&name, 1);
+    for (size_t place = 0; place < sizeof kinds / sizeof *kinds; place++)
+        if (kinds[place].name == name)
+            return &kinds[place];
+    exit(BROKEN);
+}
+
 int main(void)
 {
-    uint8_t what;
-    take(&what, 1);
-    if (what != 'p' && what != 'u')
-        return BROKEN;
-    int running = what == 'u';
-    size_t rounds = take_work(running);
+    const struct kind *kind = take_kind();
+    size_t rounds = take_work(kind->name == 'u');
     put_number(sizeof how - 1, NUMBER);
     put(how, sizeof how - 1);
     for (size_t round = 0; round <= rounds; round++)
-        put_round(running ? run_all : plan_all, round);
+        put_round(kind->all, round);
     for (size_t place = 0; place < work.count; place++) {
-        (running ? put_run : put_plan)(PRODUCT, &work.calls[place]);
-        (running ? put_run : put_plan)(RUST, &work.calls[place]);
+        kind->put(PRODUCT, &work.calls[place]);
+        kind->put(RUST, &work.calls[place]);
     }
     return 0;
 }

@@ -1,33 +1,33 @@
-//! `second bench`: the product's planner and the one in fast.rs, timed in one process, and then the
-//! product's machine and the one in fast_run.rs. The program that does so is `bench/half.c`, which
-//! says how; here the tables are made, and what it says is read. Both planners' answers and sheets
-//! have to be the plain planner's, and both machines' answers and traces the plain machine's.
+//! `second bench`: the product's reader and the one in fast.rs, timed in one process; then the two
+//! planners; and then the product's machine and the one in fast_run.rs. The program that does so is
+//! `bench/half.c`, which says how; here the tables are made, and what it says is read. Both readers'
+//! answers have to be the plain reader's, both planners' answers and sheets the plain planner's, and
+//! both machines' answers and traces the plain machine's.
 
+mod plan;
+mod read;
 mod run;
 
 use crate::answer::Refusal;
 use crate::checks::hex;
-use crate::fast;
 use crate::options::Options;
 use crate::program;
-use crate::random::Random;
-use crate::sheet::plan_into;
-use crate::workloads::largest;
 
-/// The tables of a group, and how often each planner goes over them.
+/// The tables of a group.
 const TABLES: usize = 400;
-const ROUNDS: usize = 25;
-/// A group for each outcome.
-const GROUPS: [&str; 3] = [
-    "planned",
-    "refused 11 with mark 1",
-    "refused 11 with mark 2",
-];
-const SHEET_BYTES: usize = 12 + 9 * 64;
 const UNTOUCHED: u8 = 0xee;
 
-/// The plain planner's answer, and its sheet.
+/// The plain answer, and the plain sheet.
 type Outcome = (Result<(), Refusal>, Vec<u8>);
+
+/// What a half is asked for.
+struct Kind {
+    letter: u8,
+    /// How often each side goes over the tables.
+    rounds: usize,
+    /// The length of the sheet.
+    sheet: usize,
+}
 
 struct Group {
     name: &'static str,
@@ -37,21 +37,17 @@ struct Group {
 
 /// Prints what was measured; an error if something errs, or if a half cannot be run.
 pub fn bench(options: &Options) -> Result<(), String> {
-    bench_planners(options)?;
+    read::bench_readers(options)?;
+    plan::bench_planners(options)?;
     run::bench_machines(options)
 }
 
-fn bench_planners(options: &Options) -> Result<(), String> {
-    let groups = groups(&mut Random::new(options.seed, "bench"), TABLES);
-    println!(
-        "whole calls, from a table's bytes to a written sheet; 64 rows, 16 processors; one sheet for \
-         all calls, not cleared; {ROUNDS} rounds; processor time in microseconds a table"
-    );
+fn bench_groups(options: &Options, kind: &Kind, groups: &[Group]) -> Result<(), String> {
     for command in &options.halves {
         for (place, group) in groups.iter().enumerate() {
-            let output = output(command, &input(group))?;
+            let output = output(command, &kind.input(group))?;
             let told = |why| format!("{command}: {}: {why}", group.name);
-            let said = said(&output, group).map_err(told)?;
+            let said = kind.said(&output, group).map_err(told)?;
             if place == 0 {
                 println!("{}", said.how);
             }
@@ -70,36 +66,33 @@ fn output(command: &str, input: &[u8]) -> Result<Vec<u8>, String> {
     }
 }
 
-/// So many tables for each group.
-fn groups(random: &mut Random, count: usize) -> [Group; GROUPS.len()] {
-    let mut groups = GROUPS.map(|name| Group {
-        name,
-        tables: Vec::new(),
-        outcomes: Vec::new(),
-    });
-    while groups.iter().any(|group| group.tables.len() < count) {
-        let table = largest(random);
-        // It only says where the table belongs; the plain planner is slow.
-        let mark = fast::plan_into(&table, 0, &mut [0; SHEET_BYTES]).mark;
-        let group = &mut groups[mark as usize];
-        if group.tables.len() < count {
-            let mut sheet = vec![UNTOUCHED; SHEET_BYTES];
-            let answer = plan_into(&table, &mut sheet, 0).map(|_| ());
-            group.tables.push(table);
-            group.outcomes.push((answer, sheet));
+impl Kind {
+    fn input(&self, group: &Group) -> Vec<u8> {
+        let numbers = [group.tables.len(), self.rounds, self.sheet].map(number);
+        let mut bytes = [&[self.letter], numbers.as_flattened()].concat();
+        for table in &group.tables {
+            bytes.extend(number(table.len()));
+            bytes.extend(table);
+        }
+        bytes
+    }
+
+    /// What a half says, if both sides are right.
+    fn said(&self, output: &[u8], group: &Group) -> Result<Said, String> {
+        let mut rest = output;
+        let said = Said::read(&mut rest, self.rounds)?;
+        for (table, outcome) in group.tables.iter().zip(&group.outcomes) {
+            for side in ["product", "Rust"] {
+                if answered(&mut rest, self.sheet)? != *outcome {
+                    return Err(format!("{side}: another answer for {}", hex(table)));
+                }
+            }
+        }
+        match rest {
+            [] => Ok(said),
+            _ => Err("it says too much".to_string()),
         }
     }
-    groups
-}
-
-fn input(group: &Group) -> Vec<u8> {
-    let numbers = [group.tables.len(), ROUNDS, SHEET_BYTES].map(number);
-    let mut bytes = [b"p", numbers.as_flattened()].concat();
-    for table in &group.tables {
-        bytes.extend(number(table.len()));
-        bytes.extend(table);
-    }
-    bytes
 }
 
 fn number(number: usize) -> [u8; 8] {
@@ -148,28 +141,12 @@ impl Said {
     }
 }
 
-fn said(output: &[u8], group: &Group) -> Result<Said, String> {
-    let mut rest = output;
-    let said = Said::read(&mut rest, ROUNDS)?;
-    for (table, outcome) in group.tables.iter().zip(&group.outcomes) {
-        for planner in ["product", "Rust"] {
-            if answered(&mut rest)? != *outcome {
-                return Err(format!("{planner}: another answer for {}", hex(table)));
-            }
-        }
-    }
-    match rest {
-        [] => Ok(said),
-        _ => Err("it says too much".to_string()),
-    }
-}
-
-fn answered(rest: &mut &[u8]) -> Result<Outcome, String> {
+fn answered(rest: &mut &[u8], sheet: usize) -> Result<Outcome, String> {
     let number = u32::from_le_bytes(array(rest)?);
     let names = u32::from_le_bytes(array(rest)?);
     let mark = u32::from_le_bytes(array(rest)?);
     let value = u32::from_le_bytes(array(rest)?);
-    let sheet = part(rest, SHEET_BYTES)?.to_vec();
+    let sheet = part(rest, sheet)?.to_vec();
     let answer = match (number, names, mark, value) {
         (0, 0, 0, 0) => Ok(()),
         _ => Err(Refusal {
@@ -211,9 +188,9 @@ pub mod tests {
         bytes
     }
 
-    /// As a half would put it, if both planners were right.
-    fn right(group: &Group) -> Vec<u8> {
-        let mut bytes = said_first(ROUNDS as u64);
+    /// As a half would put it, if both sides were right.
+    fn right(kind: &Kind, group: &Group) -> Vec<u8> {
+        let mut bytes = said_first(kind.rounds as u64);
         for (answer, sheet) in &group.outcomes {
             let no = answer.err().unwrap_or(Refusal::plain(0));
             let numbers = [no.number, no.names, no.mark, no.value].map(u32::to_le_bytes);
@@ -225,41 +202,27 @@ pub mod tests {
         bytes
     }
 
-    #[test]
-    fn what_a_half_says_is_read() {
-        for group in groups(&mut Random::new(1, "bench"), 2) {
-            let said = said(&right(&group), &group).expect("a right half");
-            assert_eq!(
-                (said.how.as_str(), said.product[0], said.rust[0]),
-                ("how", 2_000, 1_000)
-            );
-            let line = said.line(&group);
-            let wanted =
-                "2 tables: best product 1.00, Rust 0.50, product/Rust 2.00; median product 13.00";
-            assert!(line.contains(wanted), "{line}");
-        }
+    /// Two tables, and the rounds say 2 and 1, 4 and 3, and so on, microseconds.
+    pub fn what_a_half_says_is_read(kind: &Kind, group: &Group, wanted: &str) {
+        let said = kind.said(&right(kind, group), group).expect("a right half");
+        assert_eq!(
+            (said.how.as_str(), said.product[0], said.rust[0]),
+            ("how", 2_000, 1_000)
+        );
+        let line = said.line(group);
+        assert!(line.contains(wanted), "{line}");
     }
 
-    #[test]
-    fn a_half_is_asked_to_plan() {
-        let [group, ..] = groups(&mut Random::new(3, "bench"), 1);
-        let input = input(&group);
-        assert_eq!(input[..9], *b"p\x01\0\0\0\0\0\0\0");
-        assert!(input.ends_with(&group.tables[0]));
-        assert_eq!(input.len(), 1 + 4 * 8 + 706);
-    }
-
-    #[test]
-    fn a_wrong_half_is_seen() {
-        let [group, ..] = groups(&mut Random::new(2, "bench"), 2);
-        let right = right(&group);
-        let answers = 2 * group.tables.len() * (16 + SHEET_BYTES);
+    /// Each byte of an answer that is another one is noticed, and each one too few or too many.
+    pub fn a_wrong_half_is_seen(kind: &Kind, group: &Group) {
+        let right = right(kind, group);
+        let answers = 2 * group.tables.len() * (16 + kind.sheet);
         for place in right.len() - answers..right.len() {
             let mut wrong = right.clone();
             wrong[place] ^= 1;
-            assert!(said(&wrong, &group).is_err());
+            assert!(kind.said(&wrong, group).is_err());
         }
-        assert!(said(&right[..right.len() - 1], &group).is_err());
-        assert!(said(&[&right[..], &[0]].concat(), &group).is_err());
+        assert!(kind.said(&right[..right.len() - 1], group).is_err());
+        assert!(kind.said(&[&right[..], &[0]].concat(), group).is_err());
     }
 }

@@ -87,25 +87,22 @@ fn judge(t: Task, spare: u32) -> RowRead
     RowRead::Good(t)
 }
 
-// The row in its eleven bytes.
+// The row in its eleven bytes: two words of two fields each, and the last byte.
 fn read_row(part: &[u8]) -> RowRead
     requires { ⌜ length (now part) ≡ 11 ⌝ }
     ensures { λ r. ⌜ r ≡ rowOf (now (part .entry)) ⌝ }
 {
-    let period = bits::field(part, 0, 20);
-    let c1 = bits::field(part, 20, 20);
-    let a = bits::field(part, 40, 20);
-    let c2 = bits::field(part, 60, 20);
-    let resource = bits::field(part, 80, 5);
-    let spare = bits::field(part, 85, 3);
+    let ahead = bits::word(part, 0, 5);
+    let behind = bits::word(part, 5, 5);
+    let last = bits::word(part, 10, 1);
     let t = Task {
-        period,
-        c1,
-        a,
-        c2,
-        resource,
+        period: (ahead / 1048576) as u32,
+        c1: (ahead % 1048576) as u32,
+        a: (behind / 1048576) as u32,
+        c2: (behind % 1048576) as u32,
+        resource: (last / 8) as u32,
     };
-    judge(t, spare)
+    judge(t, (last % 8) as u32)
 }
 
 // Row k of a table, counted from 0: the row's part of the table goes to the row reader.

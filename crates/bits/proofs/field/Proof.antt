@@ -1,68 +1,83 @@
--- `bits::field` meets its contract. The loop's invariant: r is the value of the i bits passed.
-use Prim.Native.Nat.{_≤_, _-_}
-use mathlib.Core.Path.{_≡_, refl}
+-- `bits::field` meets its contract: of the bits of the bytes that it lies in, a field is those between the bits ahead and behind.
+use Prim.Native.Nat.{ℕ, _+_, _-_, _*_, _/_, _%_, _^_, _≤_, _<_}
+use mathlib.Core.Path.{_≡_, refl, _∙_, ap}
+use mathlib.Core.List.{List}
 use native.Mathlib.Omega.{arith}
+use native.Mathlib.Nat.{one-mul}
+use borrow.Author.Needs.{needs, fits-under}
+use lib.Pow as Pow
 use Rattle.bits.specs.Bits.{bitsValue}
-use Rattle.bits.proofs.Laws.{bits-lt, bits-step, bits-20}
+use Rattle.bits.proofs.Laws.{bits-lt, bits-under, bits-within}
 use Rattle.bits.proofs.field.Statement.{statement}
 use Rattle.bits.proofs.field.Tie as tie
 
-abbrev Inv-loop : tie.InvT-loop
-Inv-loop bytes at width r₀ i₀ r i = (i ≤ width) × (r ≡ bitsValue bytes at i)
+-- so many values have w bits
+size : (w : ℕ) → w ≤ 20 → 1 * 2 ^ w % 2 ^ 64 ≡ 2 ^ w
+size w h = Pow.shl-exact 1 w 64 (omega arith) (omega arith) ∙ one-mul (2 ^ w)
 
-abbrev μ-loop : tie.MeasureT-loop
-μ-loop bytes at width r₀ i₀ r i = width - i
+-- the field of w bits at place `at`, out of the bytes that it lies in
+cut : (bs : List ℕ) (at w : ℕ) → bitsValue bs (8 * (at / 8)) (8 * ((at + w + 7) / 8 - at / 8)) / 2 ^ (8 * ((at + w + 7) / 8) - (at + w)) % 2 ^ w ≡ bitsValue bs at w
+cut bs at w =
+    let behind = 8 * ((at + w + 7) / 8) - (at + w) in
+    let n : 8 * ((at + w + 7) / 8 - at / 8) ≡ at % 8 + w + behind = omega arith in
+    let p : 8 * (at / 8) + at % 8 ≡ at = omega arith in
+    rw n (bits-within bs (8 * (at / 8)) (at % 8) w behind ∙ ap (λ (k : ℕ). bitsValue bs k w) p)
 
-loop-holds : tie.Need-loop-holds Inv-loop μ-loop
-unfolding bitsValue
-loop-holds c = (omega arith, refl)
+add-end : tie.Need-add-end
+add-end c = search needs
 
-mul-r : tie.Need-mul-r Inv-loop μ-loop
-mul-r c =
-    let a = c .before .before .before .args in
-    omega (arith, bits-20 (a .bytes .now) (a .at) (c .before .loop .i) (omega arith))
+add-end-2 : tie.Need-add-end-2
+add-end-2 c = search needs
 
-add-bit : tie.Need-add-bit Inv-loop μ-loop
-add-bit c = omega arith
+sub-word : tie.Need-sub-word
+sub-word c = search needs
 
-bit-requires : tie.Need-bit-requires Inv-loop μ-loop
-bit-requires c κs = omega arith
+word-requires : tie.Need-word-requires
+word-requires c κs = search needs
 
-add-r : tie.Need-add-r Inv-loop μ-loop
-add-r c =
-    let a = c .before .before .before .before .args in
-    omega (arith, bits-20 (a .bytes .now) (a .at) (c .before .before .loop .i) (omega arith))
+mul-behind : tie.Need-mul-behind
+mul-behind c = search needs
 
-add-i : tie.Need-add-i Inv-loop μ-loop
-add-i c = omega arith
+add-behind : tie.Need-add-behind
+add-behind c = search needs
 
-loop-less : tie.Need-loop-less Inv-loop μ-loop
-loop-less c = omega arith
+sub-behind : tie.Need-sub-behind
+sub-behind c = search needs
 
-loop-again : tie.Need-loop-again Inv-loop μ-loop
-loop-again c =
-    let a = c .before .before .before .before .args in
-    (omega arith, omega (arith, bits-step (a .bytes .now) (a .at) (c .before .before .loop .i)))
+shl-size : tie.Need-shl-size
+shl-size c = search needs
 
-returns : tie.Need-returns Inv-loop μ-loop
+shr-result : tie.Need-shr-result
+shr-result c = search needs
+
+rem-result : tie.Need-rem-result
+rem-result c =
+    let w = c .before .before .args .width in
+    rw (size w (omega arith)) (Pow.pow-pos w)
+
+cast-result : tie.Need-cast-result
+cast-result c =
+    let a = c .before .before .args in
+    rw (size (a .width) (omega arith), c .word .ensures .0, cut (a .bytes .now) (a .at) (a .width)) (fits-under _ _ _ (bits-under (a .bytes .now) (a .at) (a .width) 20 (omega arith)) tt)
+
+returns : tie.Need-returns
 returns c =
-    let a = c .before .before .before .args in
-    let e : c .before .loop .i ≡ a .width = omega arith in
-    let f : c .before .loop .r ≡ bitsValue (a .bytes .now) (a .at) (a .width) = rw e at (c .before .loop .inv .1) in
-    (f, rw f (bits-lt _ _ _))
+    let a = c .before .before .args in
+    rw (size (a .width) (omega arith), c .word .ensures .0, cut (a .bytes .now) (a .at) (a .width)) (refl, bits-lt (a .bytes .now) (a .at) (a .width))
 
 pub field-spec : {M : Type 1} → statement M
 field-spec =
     tie.close
     (tie.spec
-    Inv-loop
-    μ-loop
-    loop-holds
-    mul-r
-    add-bit
-    bit-requires
-    add-r
-    add-i
-    loop-less
-    loop-again
+    add-end
+    add-end-2
+    sub-word
+    word-requires
+    mul-behind
+    add-behind
+    sub-behind
+    shl-size
+    shr-result
+    rem-result
+    cast-result
     returns)
