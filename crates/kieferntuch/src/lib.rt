@@ -40,8 +40,8 @@ fn reply(number: u32, names: u32, mark: u32, value: u32) -> Answer
 pub extern "C" fn kieferntuch_read(table: &[u8]) -> Answer
     ensures { λ r. ⌜ r ≡ answerOf (readingOf (now (table .entry))) ⌝ }
 {
-    let reading = table::read_table(table);
-    reply(reading.number, reading.names, 0, 0)
+    let no = table::refusal_of(table);
+    reply(no.number, no.names, 0, 0)
 }
 
 // Whether a sheet of this size has room for a plan of n rows from byte at on, whatever at is.

@@ -2,14 +2,13 @@
 use Prim.Native.Nat.{ℕ, zero, suc, _+_, _-_, _*_, _/_, _%_, _^_, _≤_, _<_}
 use mathlib.Core.Path.{_≡_, sym, _∙_, ap}
 use mathlib.Core.List.{List, [], _∷_, _++_}
-use mathlib.Core.Logic.{dite}
 use native.Mathlib.Omega.{arith}
-use native.Mathlib.Decide.{decLt}
-use native.Mathlib.Nat.{div-one, mod-one}
+use native.Mathlib.Nat.{mod-one, zero-add}
 use lib.ListN.{getD, List·getD-append}
 use lib.Seq.{getD-at}
 use lib.Pow as Pow
-use Rattle.bits.specs.Bits.{bitAt, bitsValue}
+use Rattle.bits.specs.Bits.{bitsValue}
+use Rattle.bits.proofs.Laws.{bits-within, bits-byte, bits-ahead}
 use Rattle.lists.specs.Tab.{tab}
 use Rattle.lists.proofs.Tab.{tab-split}
 use Rattle.sheet.specs.Sheet.{field}
@@ -17,50 +16,27 @@ use Rattle.sheet.specs.Fields.{Field, width, behind, Fit, more, bytesOf,
 use Rattle.sheet.proofs.Fields.{width-append, behind-append, behind-ahead, behind-lt, width-tab, fit-tab}
 use Rattle.sheet.proofs.Bytes.{length-bytes}
 
--- the byte at place i
-byte-at : (count x i : ℕ) → i < count → getD (bytesOf count x) i 0 ≡ x / 2 ^ (8 * (count - 1 - i)) % 256
-unfolding bytesOf
-byte-at zero x i h = absurd (omega arith)
-byte-at (suc count) x i h =
-    dite (decLt i count)
-    (λ l.
-    let e : 8 + 8 * (count - 1 - i) ≡ 8 * (suc count - 1 - i) = omega arith in
-    List·getD-append (bytesOf count (x / 256)) (x % 256 ∷ []) 0 i (omega (arith, length-bytes count (x / 256)))
-    ∙ byte-at count (x / 256) i l
-    ∙ ap (λ (y : ℕ). y % 256) (Pow.shr-shr x 8 (8 * (count - 1 - i)) ∙ ap (λ (k : ℕ). x / 2 ^ k) e))
-    (λ l.
-    let e : count ≡ i = omega arith in
-    let z : suc count - 1 - i ≡ 0 = omega arith in
-    getD-at (bytesOf count (x / 256)) (x % 256) [] 0 i (length-bytes count (x / 256) ∙ e) ∙ rw (z, div-one x))
-
--- a bit of a byte is a bit of the number
-bit-of : (y k : ℕ) → k ≤ 7 → y % 256 / 2 ^ k % 2 ≡ y / 2 ^ k % 2
-bit-of y k h =
-    let e : 8 ≡ 7 - k + 1 + k = omega arith in
-    ap (λ (w : ℕ). y % 2 ^ w / 2 ^ k % 2) e ∙ ap (λ (z : ℕ). z % 2) (Pow.field y (7 - k + 1) k) ∙ Pow.mod-mod-pow (y / 2 ^ k) (7 - k) 1
-
--- the bit at place p
-bit-at : (count x p : ℕ) → p < 8 * count → bitAt (bytesOf count x) p ≡ x / 2 ^ (8 * count - 1 - p) % 2
-bit-at count x p h =
-    let k = 7 - p % 8 in
-    let j = 8 * (count - 1 - p / 8) in
-    let e : j + k ≡ 8 * count - 1 - p = omega arith in
-    ap (λ (b : ℕ). b / 2 ^ k % 2) (byte-at count x (p / 8) (omega arith))
-    ∙ bit-of (x / 2 ^ j) k (omega arith)
-    ∙ ap (λ (y : ℕ). y % 2) (Pow.shr-shr x j k ∙ ap (λ (i : ℕ). x / 2 ^ i) e)
+-- all the bits of a number's bytes
+word-of : (count x : ℕ) → bitsValue (bytesOf count x) 0 (8 * count) ≡ x % 2 ^ (8 * count)
+unfolding bitsValue bytesOf
+word-of zero x = sym (mod-one x)
+word-of (suc count) x =
+    let ahead = bytesOf count (x / 256) in
+    let bs = ahead ++ (x % 256 ∷ []) in
+    let n : 8 * suc count ≡ 8 * (count + 1) = omega arith in
+    let d : 8 * (count + 1) ≡ 8 * count + 8 = omega arith in
+    let up : bitsValue bs 0 (8 * count) ≡ x / 256 % 2 ^ (8 * count) = bits-ahead ahead (x % 256 ∷ []) 0 (8 * count) (omega (arith, length-bytes count (x / 256))) ∙ word-of count (x / 256) in
+    let low : getD bs count 0 ≡ x % 256 = getD-at ahead (x % 256) [] 0 count (length-bytes count (x / 256)) in
+    rw n (bits-byte bs 0 count ∙ rw (up, zero-add count, low, d) (omega (arith, Pow.mod-pow-add x (8 * count) 8)))
 
 -- bits of a number's bytes are bits of the number
 bits-of : (count x at w : ℕ) → at + w ≤ 8 * count → bitsValue (bytesOf count x) at w ≡ x / 2 ^ (8 * count - at - w) % 2 ^ w
-unfolding bitsValue
-bits-of count x at zero h = sym (mod-one (x / 2 ^ (8 * count - at - 0)))
-bits-of count x at (suc w) h =
-    let j = 8 * count - at - suc w in
-    let a : 8 * count - at - w ≡ j + 1 = omega arith in
-    let b : 8 * count - 1 - (at + w) ≡ j = omega arith in
-    let c : w + 1 ≡ suc w = omega arith in
-    let d : x / 2 ^ (j + 1) ≡ x / 2 ^ j / 2 = sym (Pow.shr-shr x j 1) in
-    let e : (x / 2 ^ j / 2) % 2 ^ w * 2 + x / 2 ^ j % 2 ≡ x / 2 ^ j % 2 ^ suc w = sym (Pow.mod-pow-add (x / 2 ^ j) w 1) ∙ ap (λ (i : ℕ). x / 2 ^ j % 2 ^ i) c in
-    rw (bits-of count x at w (omega arith), bit-at count x (at + w) (omega arith), a, b, d) e
+bits-of count x at w h =
+    let j = 8 * count - at - w in
+    let n : at + w + j ≡ 8 * count = omega arith in
+    let all : bitsValue (bytesOf count x) 0 (at + w + j) ≡ x % 2 ^ (at + w + j) = rw n (word-of count x) in
+    let part : x % 2 ^ (at + w + j) / 2 ^ j % 2 ^ w ≡ bitsValue (bytesOf count x) at w = rw (all, zero-add at) at (bits-within (bytesOf count x) 0 at w j) in
+    sym part ∙ ap (λ (y : ℕ). y % 2 ^ w) (Pow.field x (at + w) j) ∙ Pow.mod-mod-pow (x / 2 ^ j) at w
 
 -- A field of a list of fields that fill their bytes is read back from its place. The fields ahead of it may say anything.
 pub read-field : (fs : List Field) (f : Field) (gs : List Field) (count : ℕ) → width (fs ++ (f ∷ gs)) ≡ 8 * count → Fit (f ∷ gs)

@@ -13,6 +13,7 @@ use Rattle.table.specs.Row.{outside, taskOf, rowOf, numberOf}
 use Rattle.table.specs.declared.Task.{Task}
 use Rattle.table.specs.declared.Table.{Table}
 use Rattle.table.specs.declared.Reading.{Reading}
+use Rattle.table.specs.declared.Refusal.{Refusal}
 
 -- "Header, 16 bits: task count n (7), processor count m (5), protocol (1: 0 is PCP, 1 is NPP), three zero bits."
 abbrev pub taskCount : List ℕ → ℕ
@@ -97,6 +98,10 @@ noTable =
 -- "All else that a refused call returns is 0"
 abbrev pub refusal : ℕ → ℕ → Reading
 refusal number names = record { number = number; names = names; table = noTable }
+
+-- the refusal of a reading by itself: its number, 0 if there is none, and what it names
+abbrev pub refusalOf : Reading → Refusal
+refusalOf r = record { number = r .number; names = r .names }
 
 -- a table that is not refused
 abbrev pub accepted : Table → Reading

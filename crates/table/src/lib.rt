@@ -1,9 +1,10 @@
 // A task table, read from any bytes: the table with its ranks and ceilings, or the one refusal 1 to 9.
 ghost use mathlib.Core.Path.{_≡_};
-ghost use Prim.Native.Nat.{_+_, _*_, _<_, _≤_};
+ghost use mathlib.Core.Bool.{Bool};
+ghost use Prim.Native.Nat.{ℕ, _+_, _*_, _<_, _≤_};
 ghost use lib.ListN.{length};
 ghost use Rattle.table.specs.Row.{outside as Row·outside, judged, rowOf, numberOf};
-ghost use Rattle.table.specs.Table.{headerNumber, rowBytes, ranked, rowsReading, refusal, accepted, readingOf};
+ghost use Rattle.table.specs.Table.{headerNumber, rowBytes, ranked, rowsReading, refusal, refusalOf, accepted, readingOf};
 
 // A row's fields: period, length of stage one, of the section and of stage two, and the resource (0 is none).
 struct Task {
@@ -42,6 +43,12 @@ pub struct Reading {
     pub number: u32,
     pub names: u32,
     pub table: Table,
+}
+
+// A refusal by itself: its number, 0 if there is none, and the row that it names.
+pub struct Refusal {
+    pub number: u32,
+    pub names: u32,
 }
 
 // Whether x is not one of lo to hi.
@@ -235,4 +242,38 @@ pub fn read_table(bytes: &[u8]) -> Reading
     let m = bits::field(bytes, 7, 5) as usize;
     let npp = bits::field(bytes, 12, 1) == 1;
     read_rows(bytes, n, m, npp)
+}
+
+// The refusal of the first bad row behind a good header.
+fn rows_refusal(bytes: &[u8], n: usize) -> Refusal
+    requires { ⌜ (n ≤ 64) × (length (now bytes) ≡ 2 + 11 * n) ⌝ }
+    ensures { λ r. ⌜ ((m : ℕ) → (npp : Bool) → r ≡ refusalOf (rowsReading (now (bytes .entry)) n m npp)) ⌝ }
+{
+    let mut i = 0;
+    while i < n {
+        let number = number_of(row_at(bytes, i));
+        if number > 0 {
+            return Refusal {
+                number,
+                names: i as u32 + 1,
+            };
+        }
+        i += 1;
+    }
+    Refusal {
+        number: 0,
+        names: 0,
+    }
+}
+
+// The refusal of any bytes, for a caller who does not want the table.
+pub fn refusal_of(bytes: &[u8]) -> Refusal
+    ensures { λ r. ⌜ r ≡ refusalOf (readingOf (now (bytes .entry))) ⌝ }
+{
+    let number = header_number(bytes);
+    if number > 0 {
+        return Refusal { number, names: 0 };
+    }
+    let n = bits::field(bytes, 0, 7) as usize;
+    rows_refusal(bytes, n)
 }
