@@ -14,10 +14,19 @@ use core::slice::{from_raw_parts, from_raw_parts_mut};
 /// The pointer is good for as many bytes as are named.
 #[no_mangle]
 pub unsafe extern "C" fn second_read(table: *const u8, table_length: usize) -> fast::Answer {
-    match fast::read(from_raw_parts(table, table_length)) {
-        Ok(_) => fast::refused(0, 0),
+    match first_refusal(from_raw_parts(table, table_length)) {
+        Ok(()) => fast::refused(0, 0),
         Err(no) => no,
     }
+}
+
+/// As the planner reads a table, but nobody wants it, so that no order of its rows is worked out.
+fn first_refusal(table: &[u8]) -> Result<(), fast::Answer> {
+    let (_, rows) = fast::read_header(table)?;
+    for (row, own) in rows.enumerate() {
+        fast::read_row(row, own)?;
+    }
+    Ok(())
 }
 
 /// # Safety

@@ -6,6 +6,7 @@ use Rattle.lists.proofs.no_numbered as no-numbered
 use Rattle.lists.proofs.one_if as one-if
 use Rattle.lists.proofs.smaller as smaller
 use Rattle.lists.proofs.store as store
+use Rattle.bits.proofs.word as word
 use Rattle.bits.proofs.field as field
 use Rattle.rank.proofs.ranks as ranks
 use Rattle.rank.proofs.uses as uses
@@ -14,6 +15,7 @@ use Rattle.rank.proofs.in_rank as in-rank
 use Rattle.rank.proofs.in_rows as in-rows
 use Rattle.rank.proofs.numbers_to as numbers-to
 use Rattle.table.proofs.read_table as read-table
+use Rattle.table.proofs.refusal_of as refusal-of
 use Rattle.bounds.proofs.bound_on as bound-on
 use Rattle.bounds.proofs.add_term as add-term
 use Rattle.bounds.proofs.no_lanes as no-lanes
@@ -66,6 +68,9 @@ smaller-settled κs a r s h p q = (p ∙ sym q, refl)
 store-settled : Settles store.ended store.Reads.Pre store.Reads.Post
 store-settled κs a r s h p q = (refl, λ i. ((p ∙ sym q) i, (tt, (tt, tt))))
 
+word-settled : Settles word.ended word.Reads.Pre word.Reads.Post
+word-settled κs a r s h p q = (p .0 ∙ sym (q .0), refl)
+
 field-settled : Settles field.ended field.Reads.Pre field.Reads.Post
 field-settled κs a r s h p q = (p .0 ∙ sym (q .0), refl)
 
@@ -89,6 +94,9 @@ numbers-to-settled κs a r s h p q = (p ∙ sym q, refl)
 
 read-table-settled : Settles read-table.ended read-table.Reads.Pre read-table.Reads.Post
 read-table-settled κs a r s h p q = (p ∙ sym q, refl)
+
+refusal-of-settled : Settles refusal-of.ended refusal-of.Reads.Pre refusal-of.Reads.Post
+refusal-of-settled κs a r s h p q = (p ∙ sym q, refl)
 
 bound-on-settled : Settles bound-on.ended bound-on.Reads.Pre bound-on.Reads.Post
 bound-on-settled κs a r s h p q = (p ∙ sym q, refl)

@@ -1,6 +1,6 @@
 -- `bits::field` meets its contract: of the bits of the bytes that it lies in, a field is those between the bits ahead and behind.
 use Prim.Native.Nat.{ℕ, _+_, _-_, _*_, _/_, _%_, _^_, _≤_, _<_}
-use mathlib.Core.Path.{_≡_, refl, _∙_, ap}
+use mathlib.Core.Path.{_≡_, _∙_, ap}
 use mathlib.Core.List.{List}
 use native.Mathlib.Omega.{arith}
 use native.Mathlib.Nat.{one-mul}
@@ -15,13 +15,13 @@ use Rattle.bits.proofs.field.Tie as tie
 size : (w : ℕ) → w ≤ 20 → 1 * 2 ^ w % 2 ^ 64 ≡ 2 ^ w
 size w h = Pow.shl-exact 1 w 64 (omega arith) (omega arith) ∙ one-mul (2 ^ w)
 
--- the field of w bits at place `at`, out of the bytes that it lies in
-cut : (bs : List ℕ) (at w : ℕ) → bitsValue bs (8 * (at / 8)) (8 * ((at + w + 7) / 8 - at / 8)) / 2 ^ (8 * ((at + w + 7) / 8) - (at + w)) % 2 ^ w ≡ bitsValue bs at w
-cut bs at w =
+-- the field of w bits at place `at`, out of the value x of the bytes that it lies in
+cut : (bs : List ℕ) (at w x : ℕ) → w ≤ 20 → x ≡ bitsValue bs (8 * (at / 8)) (8 * ((at + w + 7) / 8 - at / 8)) → x / 2 ^ (8 * ((at + w + 7) / 8) - (at + w)) % (1 * 2 ^ w % 2 ^ 64) ≡ bitsValue bs at w
+cut bs at w x h e =
     let behind = 8 * ((at + w + 7) / 8) - (at + w) in
     let n : 8 * ((at + w + 7) / 8 - at / 8) ≡ at % 8 + w + behind = omega arith in
     let p : 8 * (at / 8) + at % 8 ≡ at = omega arith in
-    rw n (bits-within bs (8 * (at / 8)) (at % 8) w behind ∙ ap (λ (k : ℕ). bitsValue bs k w) p)
+    rw (size w h, e, n) (bits-within bs (8 * (at / 8)) (at % 8) w behind ∙ ap (λ (k : ℕ). bitsValue bs k w) p)
 
 add-end : tie.Need-add-end
 add-end c = search needs
@@ -58,12 +58,13 @@ rem-result c =
 cast-result : tie.Need-cast-result
 cast-result c =
     let a = c .before .before .args in
-    rw (size (a .width) (omega arith), c .word .ensures .0, cut (a .bytes .now) (a .at) (a .width)) (fits-under _ _ _ (bits-under (a .bytes .now) (a .at) (a .width) 20 (omega arith)) tt)
+    rw (cut (a .bytes .now) (a .at) (a .width) (c .word .result) (omega arith) (c .word .ensures .0)) (fits-under _ _ _ (bits-under (a .bytes .now) (a .at) (a .width) 20 (omega arith)) tt)
 
 returns : tie.Need-returns
 returns c =
     let a = c .before .before .args in
-    rw (size (a .width) (omega arith), c .word .ensures .0, cut (a .bytes .now) (a .at) (a .width)) (refl, bits-lt (a .bytes .now) (a .at) (a .width))
+    let f = cut (a .bytes .now) (a .at) (a .width) (c .word .result) (omega arith) (c .word .ensures .0) in
+    (f, rw f (bits-lt (a .bytes .now) (a .at) (a .width)))
 
 pub field-spec : {M : Type 1} → statement M
 field-spec =
