@@ -7,7 +7,7 @@ use native.Mathlib.Nat.{add-zero, add-suc, pow-suc, mod-one, mul-assoc, lt-of-lt
 use lib.ListN.{length, getD, List·getD-append}
 use lib.Seq.{getD-append-add}
 use lib.Pow as Pow
-use Rattle.bits.specs.Bits.{bitAt, bitsValue}
+use Rattle.bits.specs.Bits.{bitsValue}
 
 -- a value of w bits is below 2 ^ w
 pub bits-lt : (bs : List ℕ) (at w : ℕ) → bitsValue bs at w < 2 ^ w

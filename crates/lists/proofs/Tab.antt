@@ -1,14 +1,14 @@
 -- Laws of tabulated lists.
 use Prim.Native.Nat.{ℕ, zero, suc, _+_, _-_, _≤_, _<_}
-use mathlib.Core.Path.{_≡_, refl, _∙_, ap}
+use mathlib.Core.Path.{_≡_, refl, sym, _∙_, ap}
 use mathlib.Core.List.{List, [], _∷_, _++_, append-assoc, append-nil}
 use mathlib.Core.Logic.{dite}
 use native.Mathlib.Omega.{arith}
-use native.Mathlib.Decide.{decLt}
+use native.Mathlib.Decide.{decLt, ℕ-discrete}
 use native.Mathlib.Numerals.{add-one}
 use native.Mathlib.Nat.{add-zero, add-suc, sub-zero}
-use lib.ListN.{length, getD, set, replicate, replicate-append-replicate, length-append, length-replicate, getD-replicate, List·getD-append}
-use lib.Seq.{set-at, getD-at, getD-append-add}
+use lib.ListN.{length, getD, set, length-set, replicate, replicate-append-replicate, length-append, length-replicate, getD-replicate, List·getD-append}
+use lib.Seq.{set-at, getD-at, getD-append-add, getD-set-same, getD-set-other, ext-getD}
 use Rattle.lists.specs.Tab.{tab, blank, filled}
 
 -- a tabulated list has n places
@@ -33,6 +33,15 @@ pub tab-same : {A : Type 0} (n : ℕ) (f g : ℕ → A) → ((i : ℕ) → i < n
 unfolding tab
 tab-same zero f g h = refl
 tab-same (suc n) f g h = rw (tab-same n f g (λ i l. h i (omega arith)), h n (omega arith))
+
+-- one place stored anew, where another rule gives that place what is stored, and the others what they have
+pub tab-set : {A : Type 0} (n : ℕ) (f g : ℕ → A) (k : ℕ) (v : A) → v ≡ g k → ((i : ℕ) → (i ≡ k → ⊥) → f i ≡ g i) → set (tab n f) k v ≡ tab n g
+tab-set n f g k v e h =
+    ext-getD v (set (tab n f) k v) (tab n g) (length-set (tab n f) k v ∙ length-tab n f ∙ sym (length-tab n g)) (λ i m.
+    let l : i < n = omega (arith, length-set (tab n f) k v, length-tab n f) in
+    sym (getD-tab n g i v l ∙ dite (ℕ-discrete i k)
+    (λ q. rw (q, sym e, getD-set-same (tab n f) k v v (omega (arith, length-tab n f))))
+    (λ q. sym (getD-set-other (tab n f) k i v v q ∙ getD-tab n f i v l ∙ h i q))))
 
 -- a list by its first places and the others
 pub tab-append : {A : Type 0} (m n : ℕ) (f : ℕ → A) → tab (m + n) f ≡ tab m f ++ tab n (λ i. f (m + i))

@@ -8,11 +8,9 @@ use native.Mathlib.Omega.{arith}
 use native.Mathlib.Decide.{decLt, ℕ-discrete}
 use native.Mathlib.Numerals.{add-one}
 use native.Mathlib.Nat.{min-le-left, min-le-right, min-eq-left, min-eq-right}
-use lib.ListN.{getD, set, length-set}
-use lib.Seq.{getD-set-same, getD-set-other, ext-getD}
+use lib.ListN.{getD, set}
 use borrow.Author.Tests.{lt-ltb, le-ltb, eq-eqb, ne-eqb}
-use Rattle.lists.specs.Tab.{tab}
-use Rattle.lists.proofs.Tab.{length-tab, getD-tab, tab-same}
+use Rattle.lists.proofs.Tab.{getD-tab, tab-same, tab-set}
 use Rattle.rank.specs.Ceiling.{uses, ceilingOf, ceilingsOf}
 
 module _ (resources ranks : List ℕ) (r : ℕ) where
@@ -78,15 +76,6 @@ module _ (resources ranks : List ℕ) (r : ℕ) where
           let q : min (getD ranks n 0) c ≡ c = min-eq-right (omega arith) in
           rw q (before (ih (rw q at h))))
 
--- a list with a place set is the list by another rule, where that gives this place what was set and the others what they had
-set-tab : (n : ℕ) (f g : ℕ → ℕ) (k v : ℕ) → v ≡ g k → ((r : ℕ) → (r ≡ k → ⊥) → f r ≡ g r) → set (tab n f) k v ≡ tab n g
-set-tab n f g k v e h =
-    ext-getD 0 (set (tab n f) k v) (tab n g) (length-set (tab n f) k v ∙ length-tab n f ∙ sym (length-tab n g)) (λ r m.
-    let l : r < n = omega (arith, length-set (tab n f) k v, length-tab n f) in
-    sym (getD-tab n g r 0 l ∙ dite (ℕ-discrete r k)
-    (λ q. rw (q, sym e, getD-set-same (tab n f) k v 0 (omega (arith, length-tab n f))))
-    (λ q. sym (getD-set-other (tab n f) k r v 0 q ∙ getD-tab n f r 0 l ∙ h r q))))
-
 module _ (resources ranks ceilings : List ℕ) (k : ℕ) (are : ceilings ≡ ceilingsOf resources ranks k) where
   -- a place of the ceilings of k rows
   ceiling-at : (r : ℕ) → r < 17 → getD ceilings r 0 ≡ ceilingOf resources ranks k r
@@ -108,4 +97,4 @@ module _ (resources ranks ceilings : List ℕ) (k : ℕ) (are : ceilings ≡ cei
   ceilings-new p l h =
       let e : getD ranks k 0 ≡ ceilingOf resources ranks (k + 1) (getD resources k 0) = sym (ceiling-new resources ranks (getD resources k 0) k p refl (omega (arith, ceiling-at (getD resources k 0) l))) in
       ap (λ (x : List ℕ). set x (getD resources k 0) (getD ranks k 0)) are
-      ∙ set-tab 17 (ceilingOf resources ranks k) (ceilingOf resources ranks (k + 1)) (getD resources k 0) (getD ranks k 0) e (λ r q. sym (ceiling-kept resources ranks r k (λ m n. absurd (q (sym n)))))
+      ∙ tab-set 17 (ceilingOf resources ranks k) (ceilingOf resources ranks (k + 1)) (getD resources k 0) (getD ranks k 0) e (λ r q. sym (ceiling-kept resources ranks r k (λ m n. absurd (q (sym n)))))

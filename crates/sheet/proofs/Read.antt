@@ -4,7 +4,7 @@ use mathlib.Core.Path.{_≡_, sym, _∙_, ap}
 use mathlib.Core.List.{List, [], _∷_, _++_}
 use native.Mathlib.Omega.{arith}
 use native.Mathlib.Nat.{mod-one, zero-add}
-use lib.ListN.{getD, List·getD-append}
+use lib.ListN.{getD}
 use lib.Seq.{getD-at}
 use lib.Pow as Pow
 use Rattle.bits.specs.Bits.{bitsValue}

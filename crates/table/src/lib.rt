@@ -94,7 +94,7 @@ fn judge(t: Task, spare: u32) -> RowRead
     RowRead::Good(t)
 }
 
-// The row in its eleven bytes: two words of two fields each, and the last byte.
+// The row in its eleven bytes, each loaded once: two words of two fields of 20 bits, and the last byte.
 fn read_row(part: &[u8]) -> RowRead
     requires { ⌜ length (now part) ≡ 11 ⌝ }
     ensures { λ r. ⌜ r ≡ rowOf (now (part .entry)) ⌝ }

@@ -1,6 +1,6 @@
 -- `bits::word` meets its contract. The loop's invariant: r is the value of the i bytes passed.
-use Prim.Native.Nat.{_+_, _*_, _-_, _^_, _≤_, _<_}
-use mathlib.Core.Path.{_≡_, refl}
+use Prim.Native.Nat.{_+_, _*_, _-_, _≤_}
+use mathlib.Core.Path.{_≡_}
 use native.Mathlib.Omega.{arith}
 use borrow.Author.Needs.{needs}
 use Rattle.bits.specs.Bits.{bitsValue}
