@@ -27,6 +27,8 @@ struct Kind {
     rounds: usize,
     /// The length of the sheet.
     sheet: usize,
+    /// What a table's time is printed in, in nanoseconds.
+    unit: f64,
 }
 
 struct Group {
@@ -49,9 +51,9 @@ fn bench_groups(options: &Options, kind: &Kind, groups: &[Group]) -> Result<(), 
             let told = |why| format!("{command}: {}: {why}", group.name);
             let said = kind.said(&output, group).map_err(told)?;
             if place == 0 {
-                println!("{}", said.how);
+                println!("{command}: {}", said.how);
             }
-            println!("{}", said.line(group));
+            println!("{}", said.line(group, kind.unit));
         }
     }
     Ok(())
@@ -134,10 +136,10 @@ impl Said {
         format!("best {best}; median {median}")
     }
 
-    fn line(&self, group: &Group) -> String {
+    fn line(&self, group: &Group, unit: f64) -> String {
         let (name, count) = (group.name, group.tables.len());
-        let micros = |nanos| nanos / 1_000.0 / count as f64;
-        format!("{name}, {count} tables: {}", self.measured(micros))
+        let units = |nanos| nanos / unit / count as f64;
+        format!("{name}, {count} tables: {}", self.measured(units))
     }
 }
 
@@ -209,7 +211,7 @@ pub mod tests {
             (said.how.as_str(), said.product[0], said.rust[0]),
             ("how", 2_000, 1_000)
         );
-        let line = said.line(group);
+        let line = said.line(group, kind.unit);
         assert!(line.contains(wanted), "{line}");
     }
 

@@ -19,10 +19,11 @@
 //!         --product "tools/run target/second/product" --list "tools/run target/bin/list"
 //!         in the repository's root.
 //!     second bench --half COMMAND [--half COMMAND ..] [--seed N]
-//!         Times the product's planner beside the one in fast.rs, on tables that are planned and on
-//!         tables that are refused, and its run beside the one in fast_run.rs, on the longest runs
-//!         there are. second/bench/build makes the programs that do so, for either processor;
-//!         second/bench/run builds them and times all.
+//!         Times the product's reader and its planner beside those in fast.rs, on tables that are
+//!         read or planned and on tables that are refused, and its run beside the one in
+//!         fast_run.rs, on the longest runs there are. second/bench/build makes the programs that do
+//!         so, for either processor; second/bench/run builds them and times all. With the program of
+//!         another build behind a further --half, that one is timed too, as before a change.
 //!
 //! A seed makes the random inputs the same again; without one it comes from the clock. The exit
 //! code is 0, or 1 if a figure, a check or a comparison fails, or 2 if the call makes no sense.

@@ -10,7 +10,7 @@ pub struct Options {
     pub product: Option<String>,
     /// The command of the product's listing program.
     pub list: Option<String>,
-    /// The commands that start the programs which time planners and machines, `bench/half.c`.
+    /// The commands that start the programs which time readers, planners and machines, `bench/half.c`.
     pub halves: Vec<String>,
 }
 

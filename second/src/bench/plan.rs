@@ -13,6 +13,7 @@ const PLAN: Kind = Kind {
     letter: b'p',
     rounds: 25,
     sheet: SHEET_BYTES,
+    unit: 1_000.0,
 };
 /// A group for each outcome.
 const GROUPS: [&str; 3] = [

@@ -12,13 +12,14 @@ const READ: Kind = Kind {
     letter: b'r',
     rounds: 101,
     sheet: 0,
+    unit: 1.0,
 };
 
 pub fn bench_readers(options: &Options) -> Result<(), String> {
     let groups = groups(&mut Random::new(options.seed, "bench read"), TABLES);
     println!(
         "readings, from a table's bytes to an answer; 64 rows; {} rounds; processor time in \
-         microseconds a table",
+         nanoseconds a table",
         READ.rounds
     );
     bench_groups(options, &READ, &groups)
@@ -68,7 +69,7 @@ mod tests {
     #[test]
     fn what_a_half_says_is_read() {
         let wanted =
-            "2 tables: best product 1.00, Rust 0.50, product/Rust 2.00; median product 51.00";
+            "2 tables: best product 1000.00, Rust 500.00, product/Rust 2.00; median product 51000.00";
         for group in groups(&mut Random::new(1, "bench read"), 2) {
             tests::what_a_half_says_is_read(&READ, &group, wanted);
         }

@@ -26,6 +26,7 @@ pub fn bench_machines(options: &Options) -> Result<(), String> {
     );
     let outcomes = [0, 1].map(|place| runs[place].plainly());
     for command in &options.halves {
+        println!("{command}:");
         for (protocol, (run, outcome)) in PROTOCOLS.iter().zip(runs.iter().zip(&outcomes)) {
             let output = output(command, &input(run))?;
             let told = |why| format!("{command}: run under {protocol}: {why}");
