@@ -98,15 +98,19 @@ unfolding numberOf
 good-number w t h = rw h
 
 module _ (bs : List ℕ) where
+  -- the first i rows are good
+  abbrev pub Read : ℕ → Type 0
+  Read i = (k : ℕ) → k < i → rowNumber bs k ≡ 0
+
   -- a bad row behind good ones is the refusal
-  pub rows-refused : (n m : ℕ) (npp : Bool) (i : ℕ) → i < n → ((k : ℕ) → k < i → rowNumber bs k ≡ 0) → 0 < rowNumber bs i → rowsReading bs n m npp ≡ refusal (rowNumber bs i) (i + 1)
+  pub rows-refused : (n m : ℕ) (npp : Bool) (i : ℕ) → i < n → Read i → 0 < rowNumber bs i → rowsReading bs n m npp ≡ refusal (rowNumber bs i) (i + 1)
   unfolding rowsReading firstBad
   rows-refused n m npp i l good bad =
       let e : firstBad bs n ≡ i = first-bad n (rowNumber bs) i l good bad in
       rw (e, lt-ltb i n l)
 
   -- good rows are the table
-  pub rows-accepted : (n m : ℕ) (npp : Bool) → ((k : ℕ) → k < n → rowNumber bs k ≡ 0) → rowsReading bs n m npp ≡ accepted (tableOf bs n m npp)
+  pub rows-accepted : (n m : ℕ) (npp : Bool) → Read n → rowsReading bs n m npp ≡ accepted (tableOf bs n m npp)
   unfolding rowsReading firstBad
   rows-accepted n m npp good =
       let e : firstBad bs n ≡ n = none-bad n (rowNumber bs) good in

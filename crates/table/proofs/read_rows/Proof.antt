@@ -13,7 +13,7 @@ use Rattle.table.specs.Row.{numberOf}
 use Rattle.table.specs.Table.{tableOf, rowBytes, refusal, rowNumber, column}
 use Rattle.table.specs.declared.RowRead.{RowRead}
 use Rattle.table.specs.declared.RowRead.the-variants.{Good, BadPeriod, BadResource, Disagree, BadSum}
-use Rattle.table.proofs.Laws.{good-task, good-number, rows-refused, rows-accepted, column-none, column-more}
+use Rattle.table.proofs.Laws.{good-task, good-number, Read, rows-refused, rows-accepted, column-none, column-more}
 use Rattle.table.proofs.read_rows.Statement.{statement}
 use Rattle.table.proofs.read_rows.Tie as tie
 
@@ -25,10 +25,6 @@ told BadPeriod h = omega arith
 told BadResource h = omega arith
 told Disagree h = omega arith
 told BadSum h = omega arith
-
--- the first i rows are good
-abbrev Read : List ℕ → ℕ → Type 0
-Read bs i = (k : ℕ) → k < i → rowNumber bs k ≡ 0
 
 -- the columns hold the first i rows
 record Columns (bs : List ℕ) (i : ℕ) (period c1 a c2 resource : List ℕ) : Type 0 where

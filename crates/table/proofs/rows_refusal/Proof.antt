@@ -1,17 +1,17 @@
 -- `table::rows_refusal` meets its contract. The loop's invariant: the first i rows are good.
-use Prim.Native.Nat.{ℕ, _-_, _≤_, _<_}
+use Prim.Native.Nat.{_-_, _≤_}
 use mathlib.Core.Path.{_≡_, sym, _∙_, ap}
 use native.Mathlib.Omega.{arith}
 use borrow.Author.Count.{below-more}
 use borrow.Author.Needs.{needs}
 use Rattle.table.specs.Row.{numberOf}
 use Rattle.table.specs.Table.{rowNumber, refusalOf}
-use Rattle.table.proofs.Laws.{rows-refused, rows-accepted}
+use Rattle.table.proofs.Laws.{Read, rows-refused, rows-accepted}
 use Rattle.table.proofs.rows_refusal.Statement.{statement}
 use Rattle.table.proofs.rows_refusal.Tie as tie
 
 abbrev Inv-loop : tie.InvT-loop
-Inv-loop bytes n i₀ i = ((k : ℕ) → k < i → rowNumber bytes k ≡ 0) × (i ≤ n)
+Inv-loop bytes n i₀ i = Read bytes i × (i ≤ n)
 
 abbrev μ-loop : tie.MeasureT-loop
 μ-loop bytes n i₀ i = n - i
