@@ -1,4 +1,6 @@
 // Arrivals: their records, refusals 15 to 18, and which of them comes next.
+#![tactic(auto)]
+
 ghost use Rattle.std.specs.Prelude.{◌≡◌, ◌&&◌, ◌||◌, ℕ, suc, ◌+◌, ◌-◌, ◌*◌, ◌<◌, ◌≤◌, min, length, get_or, ltb};
 ghost use Rattle.std.proofs.lemmas.List.Edits.{sets};
 ghost use Rattle.arrivals.specs.Arrival.{arrival_at as arrival_at_lem, lens_of, is_of, five, arrivals_of, flat_of};

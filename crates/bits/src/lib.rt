@@ -1,4 +1,6 @@
 // Bit fields of a list of bytes, the most significant bit first, taken out of whole bytes.
+#![tactic(auto)]
+
 ghost use Rattle.std.specs.Prelude.{◌≡◌, ◌+◌, ◌*◌, ◌<◌, ◌≤◌, ◌^◌, length};
 ghost use Rattle.bits.specs.Bits.{bits_value};
 

@@ -1,4 +1,6 @@
 // The least bound that covers a demand; knows terms, and no tables.
+#![tactic(auto)]
+
 ghost use Rattle.std.specs.Prelude.{◌≡◌, ◌+◌, ◌*◌, ◌<◌, ◌≤◌, length, get_or, set};
 ghost use Rattle.lists.specs.Tab.{blank};
 ghost use Rattle.bounds.specs.Demand.{ceil, demand as demand_lem, GoodTerms};

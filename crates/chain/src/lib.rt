@@ -1,4 +1,6 @@
 // A task's place in its chain: releases, one unit of work, and what is still owed.
+#![tactic(auto)]
+
 ghost use Rattle.std.specs.Prelude.{◌≡◌, cond, ◌+◌, ◌-◌, ◌*◌, ◌<◌, ◌≤◌};
 ghost use Rattle.std.proofs.Math.Option.{some, none};
 ghost use Rattle.chain.specs.Job.{moved as moved_lem, is_idle as is_idle_lem};

@@ -1,5 +1,7 @@
 // The program check: reads a table and a plan from the two files that its arguments name, and says on standard output whether the plan
 // stands for the table, or why it is refused.
+#![tactic(auto)]
+
 ghost use Prim.Native.Nat.{◌≤◌};
 ghost use lib.ListN.{length};
 

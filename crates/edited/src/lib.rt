@@ -1,4 +1,6 @@
 // A plan read back from any bytes, whoever wrote them, and held to a table: the plan, or the one refusal 20 to 24.
+#![tactic(auto)]
+
 ghost use mathlib.Core.Path.{◌≡◌};
 ghost use mathlib.Core.Bool.{not};
 ghost use Prim.Native.Nat.{ℕ, ◌+◌, ◌*◌, ◌<◌, ◌≤◌, min};

@@ -1,4 +1,6 @@
 // The jobs of 64 rows as numbers side by side, nine for each, so that they can be lent and changed in their place.
+#![tactic(auto)]
+
 ghost use Rattle.std.specs.Prelude.{◌≡◌, ◌+◌, ◌*◌, ◌<◌, length};
 ghost use Rattle.std.proofs.lemmas.List.Edits.{sets};
 ghost use Rattle.lists.specs.Tab.{blank};

@@ -1,4 +1,6 @@
 // What C and Rust link: `rt staticlib kieferntuch` makes libkieferntuch.a, and include/kieferntuch.h declares the functions.
+#![tactic(auto)]
+
 ghost use Rattle.std.specs.Prelude.{◌≡◌, not, ◌+◌, ◌*◌, ◌<◌, ◌≤◌, length};
 ghost use Rattle.lists.specs.Tab.{blank};
 ghost use Rattle.table.specs.Table.{reading_of};

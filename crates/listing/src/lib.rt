@@ -1,4 +1,6 @@
 // The text of an answer, written into a lent buffer.
+#![tactic(auto)]
+
 ghost use Rattle.std.specs.Prelude.{◌≡◌, ◌+◌, ◌*◌, ◌<◌, ◌≤◌, [], ◌∷◌, length, drop};
 ghost use Rattle.listing.specs.Text.{decimal, spaced, line, Wrote};
 ghost use Rattle.listing.specs.Listing.{refused_line, plan_line, resource_line, resource_lines, task_line, plan_text, listing_of};

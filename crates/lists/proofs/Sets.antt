@@ -73,7 +73,7 @@ module _ {A : Type 0} where
   sets-part l at u h =
       let k : 0 + length u ≤ length (drop at l) = omega (arith, length-drop at l) in
       let e : at + (0 + length u) ≡ at + length u = omega arith in
-      rw (sets-eq u (drop at l) 0 k, sets-eq u l at h, drop-drop (0 + length u) at l, e, append_assoc)
+      rw (sets-eq u (drop at l) 0 k, sets-eq u l at h, drop-drop (0 + length u) at l, e) (simp append_assoc)
 
 -- numbers that are each within their bound stay so where what is set in a place is within its own
 pub set-within : (l : List ℕ) (b : ℕ → ℕ) (k v : ℕ) → ((m : ℕ) → get_or l m 0 ≤ b m) → v ≤ b k → (m : ℕ) → get_or (set l k v) m 0 ≤ b m

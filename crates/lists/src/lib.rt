@@ -1,5 +1,7 @@
 // What every layer uses: definitions over lists and numbers (specs/) with their laws (proofs/), the blank arrays that columns are
 // filled from, and a few small functions.
+#![tactic(auto)]
+
 ghost use Rattle.std.specs.Prelude.{◌≡◌, cond, ◌+◌, ◌≤◌, min, length};
 ghost use Rattle.std.proofs.lemmas.List.Edits.{sets};
 ghost use Rattle.lists.specs.Tab.{blank};

@@ -1,4 +1,6 @@
 // What each processor runs in a tick, from one pass over the rows.
+#![tactic(auto)]
+
 ghost use Rattle.std.specs.Prelude.{◌≡◌, ℕ, ◌<◌, ◌≤◌, length, get_or, ltb};
 ghost use Rattle.lists.specs.Tab.{tab};
 ghost use Rattle.jobs.specs.Numbers.{jobs_in};

@@ -1,4 +1,6 @@
 // The plan of a table: trial after trial, the first that succeeds.
+#![tactic(auto)]
+
 ghost use Rattle.std.specs.Prelude.{◌≡◌, ℕ, ◌+◌, ◌<◌, ◌≤◌, min, get_or};
 ghost use Rattle.table.specs.Good.{GoodTable};
 ghost use Rattle.plan.specs.Tasks.{works_of, of_resource as of_resource_lem, tasks_of as tasks_of_lem};

@@ -1,4 +1,6 @@
 // Blocking, and the bounds of sections.
+#![tactic(auto)]
+
 ghost use Rattle.std.specs.Prelude.{◌≡◌, cond, ◌&&◌, ◌||◌, ◌<◌, ◌≤◌, max, leb, eqb};
 ghost use Rattle.sections.specs.Blocking.{blocking_of};
 ghost use Rattle.sections.specs.Section.{sections_of};

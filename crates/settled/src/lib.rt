@@ -1,1 +1,2 @@
 // What the statements settle: no code, only theorems about the contracts of every layer (proofs/).
+#![tactic(auto)]

@@ -1,4 +1,6 @@
 // Resources go to synchronization processors: heaviest first, each to the least loaded.
+#![tactic(auto)]
+
 ghost use Rattle.std.specs.Prelude.{◌≡◌, cond, ℕ, ◌*◌, ◌<◌, ◌≤◌, get_or};
 ghost use Rattle.bounds.specs.Demand.{ceil};
 ghost use Rattle.rank.specs.Ceiling.{uses};

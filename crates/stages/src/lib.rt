@@ -1,4 +1,6 @@
 // The bounds of stages, and first fit.
+#![tactic(auto)]
+
 ghost use Rattle.std.specs.Prelude.{◌≡◌, cond, ℕ, ◌<◌, ◌≤◌, min, length, get_or};
 ghost use Rattle.bounds.specs.Demand.{GoodTerms};
 ghost use Rattle.bounds.specs.Terms.{lane};

@@ -1,4 +1,6 @@
 // Ticks stepped together, as long as nothing is released and every processor runs the same row.
+#![tactic(auto)]
+
 ghost use Rattle.std.specs.Prelude.{◌≡◌, ℕ, suc, ◌+◌, ◌*◌, ◌<◌, ◌≤◌, length, get_or, set};
 ghost use Rattle.lists.specs.Tab.{tab};
 ghost use Rattle.chain.specs.Release.{due_of};

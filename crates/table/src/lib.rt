@@ -1,4 +1,6 @@
 // A task table, read from any bytes: the table with its ranks and ceilings, or the one refusal 1 to 9.
+#![tactic(auto)]
+
 ghost use Rattle.std.specs.Prelude.{◌≡◌, Bool, ℕ, ◌+◌, ◌*◌, ◌<◌, ◌≤◌, length};
 ghost use Rattle.table.specs.Row.{outside as outside_lem, judged, row_of, number_of as number_of_lem};
 ghost use Rattle.table.specs.Table.{header_number as header_number_lem, row_bytes, ranked, rows_reading, refusal, refusal_of as refusal_of_lem, accepted, reading_of};

@@ -8,8 +8,7 @@ use borrow.Author.Rules.{rules, Fits-under}
 use lib.Pow as Pow
 use Rattle.bits.specs.Bits.{bits_value}
 use Rattle.bits.proofs.Laws.{bits_lt, bits_within}
-use Rattle.bits.proofs.field.Statement.{statement}
-use Rattle.bits.proofs.field.Tie as tie
+use Rattle.bits.proofs.field.Goals as goal
 
 -- so many values have w bits
 size : (w : ℕ) → w ≤ 20 → 1 * 2 ^ w % 2 ^ 64 ≡ 2 ^ w
@@ -27,58 +26,14 @@ cut bs at w x h e =
     let p : 8 * (at / 8) + at % 8 ≡ at = omega arith in
     rw (size w h, e, n) (bits_within bs (8 * (at / 8)) (at % 8) w behind ∙ ap (λ (k : ℕ). bits_value bs k w) p)
 
-add-end : tie.Need-overflow-add-end
-add-end c = search rules
+pub nonzero_rem-result : goal.nonzero_rem-result
+nonzero_rem-result c = subst (λ (n : ℕ). 0 < n) (sym (size _ (omega arith))) (Pow.pow_pos _)
 
-add-end-2 : tie.Need-overflow-add-end-2
-add-end-2 c = search rules
+pub overflow_cast-result : goal.overflow_cast-result
+overflow_cast-result c = Fits-under _ _ _ (below _ _ (omega arith)) tt
 
-sub_word : tie.Need-overflow-sub-word
-sub_word c = search rules
-
-word-requires : tie.Need-word-requires
-word-requires c κs = search rules
-
-mul-behind : tie.Need-overflow-mul-behind
-mul-behind c = search rules
-
-add-behind : tie.Need-overflow-add-behind
-add-behind c = search rules
-
-sub-behind : tie.Need-overflow-sub-behind
-sub-behind c = search rules
-
-shl-size : tie.Need-overflow-shl-size
-shl-size c = search rules
-
-shr-result : tie.Need-overflow-shr-result
-shr-result c = search rules
-
-rem-result : tie.Need-nonzero-rem-result
-rem-result c = subst (λ (n : ℕ). 0 < n) (sym (size _ (omega arith))) (Pow.pow_pos _)
-
-cast-result : tie.Need-overflow-cast-result
-cast-result c = Fits-under _ _ _ (below _ _ (omega arith)) tt
-
-returns : tie.Need-returns
+pub returns : goal.returns
 returns c =
-    let a = c.before.before.args in
-    let f = cut a.bytes.now a.at a.width c.word.result (omega arith) c.word.ensures.0 in
+    let a = c.args in
+    let f = cut a.bytes.now a.at a.width c.word-w.result (omega arith) c.word-w.ensures.0 in
     (f, rw f (bits_lt a.bytes.now a.at a.width))
-
-pub field-spec : {M : Type 1} → statement M
-field-spec =
-    tie.close
-    (tie.spec
-    add-end
-    add-end-2
-    sub_word
-    word-requires
-    mul-behind
-    add-behind
-    sub-behind
-    shl-size
-    shr-result
-    rem-result
-    cast-result
-    returns)
