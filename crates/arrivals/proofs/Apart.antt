@@ -8,9 +8,9 @@ use native.Mathlib.Numerals.{add-one}
 use lib.ListN.{length, get_or}
 use lib.Seq.{sets, length-sets, ext_get_or}
 use Rattle.lists.specs.Tab.{joined}
-use Rattle.lists.proofs.Tab.{length-tab, get_d_tab}
-use Rattle.lists.proofs.Sets.{get_d_within}
-use Rattle.lists.proofs.Joined.{length-joined, get_d_joined, joined_front}
+use Rattle.lists.proofs.Tab.{length-tab, get_or-tab}
+use Rattle.lists.proofs.Sets.{get_or-within}
+use Rattle.lists.proofs.Joined.{length-joined, get_or-joined, joined_front}
 use Rattle.arrivals.specs.Arrival.{Arrival, no_arrival, arrival_at, five, arrival_in, arrivals_of, flat_of}
 
 module _ (xs : List Arrival) (out : List ℕ) where
@@ -39,16 +39,16 @@ module _ (xs : List Arrival) (out : List ℕ) where
   flat_at n i j at h k l e =
       let all : length (joined n numbers) ≡ 5 * n = length-joined 5 numbers (λ m. refl) n in
       ap (λ (m : ℕ). get_or (flat_of xs n out) m 0) (sym (zero-add at))
-      ∙ get_d_within 0 (joined n numbers) out 0 at (omega arith) (omega arith)
+      ∙ get_or-within 0 (joined n numbers) out 0 at (omega arith) (omega arith)
       ∙ ap (λ (m : ℕ). get_or (joined n numbers) m 0) e
-      ∙ get_d_joined 5 numbers (λ m. refl) n i j 0 k l
+      ∙ get_or-joined 5 numbers (λ m. refl) n i j 0 k l
 
   -- arrivals that were taken apart are had back
   pub flat_back : length xs ≤ 4096 → length out ≡ 20480 → arrivals_of (flat_of xs (length xs) out) (length xs) ≡ xs
   unfolding arrivals_of arrival_in
   flat_back h l = ext_get_or no_arrival (arrivals_of flat n) xs (length-tab n (arrival_in flat)) (λ i k.
       let m : i < n = omega (arith, length-tab n (arrival_in flat)) in
-      get_d_tab n (arrival_in flat) i no_arrival m
+      get_or-tab n (arrival_in flat) i no_arrival m
       ∙ rw (at i 0 (5 * i) m (omega arith) (omega arith), at i 1 (5 * i + 1) m (omega arith) refl, at i 2 (5 * i + 2) m (omega arith) refl, at i 3 (5 * i + 3) m (omega arith) refl, at i 4 (5 * i + 4) m (omega arith) refl))
     where
       n : ℕ

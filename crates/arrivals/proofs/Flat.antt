@@ -11,7 +11,7 @@ use borrow.Author.Tests.{lt-ltb, le-ltb, le-leb, lt-leb, eq-eqb, ne_eqb}
 use lib.ListN.{length, get_or, set}
 use lib.Dec.{ltb, leb, eqb}
 use lib.Seq.{sets}
-use Rattle.lists.proofs.Tab.{length-tab, get_d_tab}
+use Rattle.lists.proofs.Tab.{length-tab, get_or-tab}
 use Rattle.arrivals.specs.Arrival.{Arrival, no_arrival, arrival_at, is_of, five, arrival_in, arrivals_of}
 use Rattle.arrivals.specs.Check.{disordered}
 
@@ -23,7 +23,7 @@ length_arrivals flat count = length-tab count (arrival_in flat)
 -- an arrival is what its five numbers say
 pub arrival_at_lem : (flat : List ℕ) (count k : ℕ) → k < count → arrival_at (arrivals_of flat count) k ≡ arrival_in flat k
 unfolding arrivals_of
-arrival_at_lem flat count k h = get_d_tab count (arrival_in flat) k no_arrival h
+arrival_at_lem flat count k h = get_or-tab count (arrival_in flat) k no_arrival h
 
 -- whether it is the one of a row at a tick, by its numbers
 pub is_of_by : (flat : List ℕ) (count i t k : ℕ) → k < count → is_of (arrivals_of flat count) i t k ≡ (eqb (get_or flat (5 * k) 0) t && eqb (get_or flat (5 * k + 1) 0) (i + 1))

@@ -8,7 +8,7 @@ ghost use Rattle.arrivals.specs.Check.{disordered as disordered_lem, last_of, nu
 
 // An arrival: its tick, its row, counted from 1, and the actual lengths of the three stages.
 #[repr(C)]
-#[derive(Drop)]
+#[derive(Clone, Copy)]
 pub struct Arrival {
     pub tick: u32,
     pub row: u32,
@@ -18,7 +18,7 @@ pub struct Arrival {
 }
 
 // The refusal of a list of arrivals, 0 if there is none, and the position that it names.
-#[derive(Drop)]
+#[derive(Clone, Copy)]
 pub struct Heard {
     pub number: u32,
     pub position: u32,

@@ -9,7 +9,7 @@ use borrow.Author.Tests.{eq-eqb, ne_eqb}
 use lib.ListN.{length, get_or, set, drop, length-set, length-drop}
 use lib.Seq.{get_or-set_same, get_or-set_other, get_or-drop, drop-set-add}
 use Rattle.lists.specs.Tab.{tab, blank}
-use Rattle.lists.proofs.Tab.{length-blank, get_d_blank}
+use Rattle.lists.proofs.Tab.{length-blank, get_or-blank}
 use Rattle.bounds.specs.Demand.{GoodTerm, GoodTerms}
 use Rattle.bounds.specs.Terms.{term_at, terms_on, terms_in, lane}
 use Rattle.bounds.proofs.Terms.{terms_same, terms_put, on_more, on_same, on_good}
@@ -32,7 +32,7 @@ module _ (ps ls : List ℕ) where
       }
     where
       none : (p : ℕ) → get_or counts p 0 ≡ 0
-      none p = ap (λ (x : List ℕ). get_or x p 0) c ∙ get_d_blank 17 0 p
+      none p = ap (λ (x : List ℕ). get_or x p 0) c ∙ get_or-blank 17 0 p
 
   -- only the homes of the first k tasks count
   pub lanes_same : {homes others periods lens counts : List ℕ} {k : ℕ} → ((i : ℕ) → i < k → get_or homes i 0 ≡ get_or others i 0) → Lanes homes periods lens counts k → Lanes others periods lens counts k

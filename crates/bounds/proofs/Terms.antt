@@ -11,7 +11,7 @@ use lib.ListN.{length, get_or, set, length-append, get_or-append}
 use lib.Seq.{get_or-set_same, get_or-set_other, get_or_at}
 use lib.Dec.{eqb}
 use Rattle.lists.specs.Tab.{tab}
-use Rattle.lists.proofs.Tab.{length-tab, get_d_tab}
+use Rattle.lists.proofs.Tab.{length-tab, get_or-tab}
 use Rattle.bounds.specs.Demand.{Term, GoodTerm, GoodTerms, no_term}
 use Rattle.bounds.specs.Terms.{term_at, terms_on, terms_in}
 
@@ -73,4 +73,4 @@ on_good ps ls homes p (suc k) h = go (eqb (get_or homes k 0) p) (on_good ps ls h
 -- the term at a place of two arrays
 pub in_good : (ps ls : List ℕ) (n i : ℕ) → GoodTerms (terms_in ps ls n) → i < n → GoodTerm (term_at ps ls i)
 unfolding terms_in
-in_good ps ls n i g l = rw (get_d_tab n (term_at ps ls) i no_term l) at (g i (omega (arith, length-tab n (term_at ps ls))))
+in_good ps ls n i g l = rw (get_or-tab n (term_at ps ls) i no_term l) at (g i (omega (arith, length-tab n (term_at ps ls))))

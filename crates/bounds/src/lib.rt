@@ -8,7 +8,7 @@ ghost use Rattle.bounds.specs.Terms.{terms_in, lane};
 ghost use Rattle.bounds.specs.Bound.{least as least_lem, bound_of as bound_of_lem};
 
 // A bound, or, where there is none up to the limit, the value that broke it.
-#[derive(Drop)]
+#[derive(Clone, Copy)]
 pub enum Bound {
     At(u32),
     Missing(u32),

@@ -1,6 +1,6 @@
 -- A job's place: which part it runs, or that it runs none.
 use Prim.Native.Nat.{ℕ, ◌<◌}
-use mathlib.Core.Path.{◌≡◌, ap}
+use mathlib.Core.Path.{◌≡◌, refl, ap}
 use mathlib.Core.List.{[], ◌∷◌}
 use mathlib.Core.Logic.{⊎_elim}
 use native.Mathlib.Omega.{arith}
@@ -12,10 +12,10 @@ use Rattle.chain.specs.Good.{part_of}
 use Rattle.chain.specs.contracts.Place.{the_type}
 
 -- what holds of a task that is idle and of one that waits holds of one that does not run
-pub rests : (Q : Place → Type 0) → Q Idle → ((u j : ℕ) → Q (Waiting u j)) → (p : Place) → OneOf (0 ∷ 1 ∷ []) (tag_of the_type p) → Q p
+pub rests : (Q : Place → Type 0) → Q Idle → ((u j : ℕ) → Q (Waiting u j)) → (p : Place) → ((j l : ℕ) → p ≡ Running j l → ⊥) → Q p
 rests Q e w Idle h = e
 rests Q e w (Waiting u j) h = w u j
-rests Q e w (Running j l) h = absurd (⊎_elim (λ k. omega arith) (λ k. omega arith) h)
+rests Q e w (Running j l) h = absurd (h j l refl)
 
 -- a running part is one of the three
 pub part_small : (p : Place) (j l : ℕ) → part_of p < 3 → p ≡ Running j l → j < 3

@@ -11,7 +11,7 @@ ghost use Rattle.chain.specs.Good.{GoodBounds, GoodJob, Lasts};
 
 // A task is idle, waits until a named tick for the release of a part, or runs a part with ticks left. Part 0 is stage one,
 // part 1 the section, part 2 stage two.
-#[derive(Drop)]
+#[derive(Clone, Copy)]
 pub enum Place {
     Idle,
     Waiting { until: u32, part: u32 },
@@ -20,7 +20,7 @@ pub enum Place {
 
 // A task's place, the tick of its last arrival and the lengths that it brought; one more than the tick in which the running
 // part first ran, 0 until then; how many jobs of the task have ended, and how many units it has run.
-#[derive(Drop)]
+#[derive(Clone, Copy)]
 pub struct Job {
     pub place: Place,
     pub arrived: u32,
@@ -31,7 +31,7 @@ pub struct Job {
 }
 
 // A job once the releases of a tick are in, and whether one of them came too early.
-#[derive(Drop)]
+#[derive(Clone, Copy)]
 pub struct Released {
     pub job: Job,
     pub late: bool,

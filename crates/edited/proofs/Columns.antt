@@ -8,7 +8,7 @@ use lib.ListN.{get_or}
 use lib.Dec.{ltb}
 use Rattle.lists.specs.Tab.{blank, filled}
 use Rattle.lists.specs.First.{first}
-use Rattle.lists.proofs.Tab.{get_d_filled, get_d_blank}
+use Rattle.lists.proofs.Tab.{get_or-filled, get_or-blank}
 use Rattle.lists.proofs.First.{first_ext}
 use Rattle.rank.proofs.InRank.{at_lt}
 use Rattle.rank.proofs.Ceiling.{ceilings-used}
@@ -69,7 +69,7 @@ module _ (t : Table) (g : GoodTable t) (p : Plan) where
 
   -- the blocking of task k, at most a million
   blocking_at : (k : ℕ) → k < t.n → get_or (blockings t p) k 0 ≡ blocked t p k
-  blocking_at k l = get_d_filled 64 0 (blocked t p) t.n k 0 l
+  blocking_at k l = get_or-filled 64 0 (blocked t p) t.n k 0 l
 
   small_blocking : (k : ℕ) → k < t.n → get_or (blockings t p) k 0 ≤ 1000000
   small_blocking k l =
@@ -95,14 +95,14 @@ module _ (t : Table) (g : GoodTable t) (p : Plan) where
       → Asked t (periods t p) (works t p) (blank 64 0) own bounds
   stage_asked own bounds o b i l =
       let h = g.tasks i l in
-      (ranked i l, omega (arith, h.sum.1, h.period.1, o i l), omega (arith, get_d_blank {A = ℕ} 64 0 i), b i l, stage_term i l)
+      (ranked i l, omega (arith, h.sum.1, h.period.1, o i l), omega (arith, get_or-blank {A = ℕ} 64 0 i), b i l, stage_term i l)
 
   -- and columns that are those have the first row whose stage is not covered
   pub stage_first : {ps fs ss ws hs none : List ℕ} → ps ≡ periods t p → fs ≡ by_rank t t.c1 → ss ≡ by_rank t t.c2 → ws ≡ works_of fs ss t.n → hs ≡ by_rank t p.processor → none ≡ blank 64 0
       → (own bounds : List ℕ) (r : ℕ) → r ≡ first_uncovered t ps ws hs none own bounds → r ≡ first t.n (λ i. not (isCovered (stage_terms t p (get_or t.rank i 0)) (get_or own i 0) 0 (get_or bounds i 0)))
   unfolding stage_terms stage_homes
   stage_first e1 e2 e3 e4 e5 e6 own bounds r h =
-      h ∙ rw (e6, e5, e4, e3, e2, e1) (first_ext t.n _ _ (λ i l. rw (get_d_blank {A = ℕ} 64 0 (get_or t.rank i 0))))
+      h ∙ rw (e6, e5, e4, e3, e2, e1) (first_ext t.n _ _ (λ i l. rw (get_or-blank {A = ℕ} 64 0 (get_or t.rank i 0))))
 
   -- a resource is used exactly if its ceiling is below 64
   pub by_ceiling : first 16 (λ i. misplaced (ltb (get_or t.ceiling (i + 1) 0) 64) (get_or p.serves (i + 1) 0) p.s) ≡ first_resource t p

@@ -10,7 +10,7 @@ use borrow.Author.Tests.{lt-ltb, le-ltb, eq-eqb, ne_eqb}
 use lib.ListN.{length, get_or, set}
 use lib.Dec.{ltb}
 use Rattle.lists.specs.Tab.{blank, filled}
-use Rattle.lists.proofs.Tab.{get_d_tab, get_d_filled, filled_none, filled_more, filled_all}
+use Rattle.lists.proofs.Tab.{get_or-tab, get_or-filled, filled_none, filled_more, filled_all}
 use Rattle.lists.proofs.First.{first_bad_lem, none_bad}
 use Rattle.bits.specs.Bits.{bits_value}
 use Rattle.bits.proofs.Laws.{bits_lt}
@@ -92,10 +92,10 @@ plan_fits n bs = record { count = bits_lt bs 12 4; serves = served; rows = λ k 
   where
     served : (r : ℕ) → r < 17 → get_or (serves_in bs) r 0 < 32
     served zero l = omega arith
-    served (suc r) l = omega (arith, get_d_tab 16 (λ k. bits_value bs (16 + 5 * k) 5) r 0 (omega arith), bits_lt bs (16 + 5 * r) 5)
+    served (suc r) l = omega (arith, get_or-tab 16 (λ k. bits_value bs (16 + 5 * k) 5) r 0 (omega arith), bits_lt bs (16 + 5 * r) 5)
 
     field : (at width k : ℕ) → k < n → get_or (filled 64 0 n (row_field bs at width)) k 0 < 2 ^ width
-    field at width k l = rw (get_d_filled 64 0 (row_field bs at width) n k 0 l) (bits_lt bs (96 + 72 * k + at) width)
+    field at width k l = rw (get_or-filled 64 0 (row_field bs at width) n k 0 l) (bits_lt bs (96 + 72 * k + at) width)
 
 -- a plan held to a table ends in the first of these
 module _ (t : Table) (p : Plan) (resource : ℕ) (r : resource ≡ first_resource t p) where

@@ -7,7 +7,7 @@ use native.Mathlib.Numerals.{add-one}
 use native.Mathlib.Nat.{add-zero}
 use lib.ListN.{length, get_or}
 use lib.Seq.{ext_get_or}
-use Rattle.lists.proofs.Tab.{length-tab, get_d_tab, filled_same}
+use Rattle.lists.proofs.Tab.{length-tab, get_or-tab, filled_same}
 use Rattle.lists.proofs.Tests.{clash}
 use Rattle.bits.specs.Bits.{bits_value}
 use Rattle.table.specs.declared.Table.{Table}
@@ -47,7 +47,7 @@ serves_same bs serves size none says = ext_get_or 0 (serves_in bs) serves (omega
     place zero l = sym none
     place (suc r) l =
         let h : r < 16 = omega (arith, length-tab 16 (λ r. bits_value bs (16 + 5 * r) 5)) in
-        get_d_tab 16 (λ r. bits_value bs (16 + 5 * r) 5) r 0 h ∙ says r h ∙ ap (λ (k : ℕ). get_or serves k 0) (add-one r)
+        get_or-tab 16 (λ r. bits_value bs (16 + 5 * r) 5) r 0 h ∙ says r h ∙ ap (λ (k : ℕ). get_or serves k 0) (add-one r)
 
 module _ (t : Table) (g : GoodTable t) (p : Plan) (fits : PlanFits t.n p) (shaped : Shaped t.n p) (stands : Stands t p) where
   -- the bytes of the plan say its numbers
@@ -60,12 +60,12 @@ module _ (t : Table) (g : GoodTable t) (p : Plan) (fits : PlanFits t.n p) (shape
   plan_same =
       let (processor, d1, section, d2) = shaped.columns in
       rw (
-        says.s-bits,
-        serves_same (plan_written t p) p.serves shaped.numbers ((stands.resources 0 (omega arith)).off (λ (k, l, u). clash cc)) says.serves-bits,
-        column_same (plan_written t p) t.n 0 5 p.processor processor (λ k l. rw (add-zero (96 + 72 * k)) (says.tasks k l).processor-bits),
-        column_same (plan_written t p) t.n 5 20 p.d1 d1 (λ k l. (says.tasks k l).d1-bits),
-        column_same (plan_written t p) t.n 25 20 p.section section (λ k l. (says.tasks k l).section-bits),
-        column_same (plan_written t p) t.n 45 20 p.d2 d2 (λ k l. (says.tasks k l).d2-bits),
+        says.s_bits,
+        serves_same (plan_written t p) p.serves shaped.numbers ((stands.resources 0 (omega arith)).off (λ (k, l, u). clash cc)) says.serves_bits,
+        column_same (plan_written t p) t.n 0 5 p.processor processor (λ k l. rw (add-zero (96 + 72 * k)) (says.tasks k l).processor_bits),
+        column_same (plan_written t p) t.n 5 20 p.d1 d1 (λ k l. (says.tasks k l).d1_bits),
+        column_same (plan_written t p) t.n 25 20 p.section section (λ k l. (says.tasks k l).section_bits),
+        column_same (plan_written t p) t.n 45 20 p.d2 d2 (λ k l. (says.tasks k l).d2_bits),
       )
 
   -- and a plan that stands is read back the same, whoever made it
@@ -73,9 +73,9 @@ module _ (t : Table) (g : GoodTable t) (p : Plan) (fits : PlanFits t.n p) (shape
   stands_read =
       let yes : (plan_reading t (plan_written t p)).number ≡ 0 = (accepted_exactly t (plan_written t p)).1 record {
         whole = says.size;
-        rows = says.n-bits;
-        processors = says.m-bits;
-        spare = λ k l. (says.tasks k l).spare-bits;
+        rows = says.n_bits;
+        processors = says.m_bits;
+        spare = λ k l. (says.tasks k l).spare_bits;
         stands = rw plan_same stands;
       } in
       reading_accepted t (plan_written t p) yes ∙ ap accepted plan_same

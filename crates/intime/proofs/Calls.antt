@@ -7,7 +7,7 @@ use native.Mathlib.Omega.{arith}
 use borrow.Author.Tests.{ltb-true, ltb-false}
 use lib.ListN.{get_or, length}
 use lib.Dec.{ltb}
-use Rattle.lists.proofs.Tab.{get_d_blank}
+use Rattle.lists.proofs.Tab.{get_or-blank}
 use Rattle.lists.proofs.First.{first_yes}
 use Rattle.table.specs.declared.Table.{Table}
 use Rattle.table.specs.Table.{reading_of}
@@ -59,7 +59,7 @@ module _ (bs : List ℕ) (xs : List Arrival) (f w size : ℕ) where
 
   -- a refusal has no responses
   refusal : (number names mark value : ℕ) → number ≤ 18 → Kept (refused number names mark value)
-  refusal number names mark value h = record { number_le = h; worst-le = λ i j hi hj. omega (arith, get_d_blank {A = ℕ} 192 0 (3 * i + j)) }
+  refusal number names mark value h = record { number_le = h; worst-le = λ i j hi hj. omega (arith, get_or-blank {A = ℕ} 192 0 (3 * i + j)) }
 
   -- whichever way a test goes
   tested : (a b : ℕ) (x y : Ran) → (a < b → Kept x) → (b ≤ a → Kept y) → Kept (cond (ltb a b) x y)
@@ -79,7 +79,7 @@ module _ (bs : List ℕ) (xs : List Arrival) (f w size : ℕ) where
         tested tick (f + w) _ _
         (λ h.
         let late = ltb-true (late_at (chart_of t p) (brings xs) tick) t.n (first_yes (f + w) (is_late (chart_of t p) xs) h) in
-        absurd (omega (arith, d.never-late tick)))
+        absurd (omega (arith, d.never_late tick)))
         (λ h. record { number_le = omega arith; worst-le = d.worst (f + w) })
 
     -- refusals 12 to 18
@@ -110,4 +110,4 @@ responses bs xs f w size = (answered bs xs f w size).worst-le
 
 -- and 19 is never given
 pub never_19 : Never19
-never_19 bs xs f w size e = omega (arith, (answered bs xs f w size).number-le)
+never_19 bs xs f w size e = omega (arith, (answered bs xs f w size).number_le)

@@ -10,11 +10,11 @@ use lib.ListN.{get_or}
 use lib.Dec.{eqb, leb}
 use Rattle.lists.specs.Tab.{blank}
 use Rattle.lists.specs.Total.{total}
-use Rattle.lists.proofs.Tab.{get_d_tab, get_d_filled, get_d_blank}
+use Rattle.lists.proofs.Tab.{get_or-tab, get_or-filled, get_or-blank}
 use Rattle.lists.proofs.Total.{total_ext}
 use Rattle.rank.specs.Order.{row_of}
 use Rattle.rank.specs.Ceiling.{uses, ceiling_of, ceilings_of}
-use Rattle.rank.proofs.InRank.{get_d_in_rank, at_lt, row_of_rank, rank_of_row, at_rank}
+use Rattle.rank.proofs.InRank.{get_or-in_rank, at_lt, row_of_rank, rank_of_row, at_rank}
 use Rattle.rank.proofs.Ceiling.{ceiling_le}
 use Rattle.table.specs.declared.Table.{Table}
 use Rattle.table.specs.Good.{GoodTable}
@@ -79,7 +79,7 @@ module _ (t : Table) (p : Plan) (g : GoodTable t) where
   home_is : (i j : ℕ) → i < t.n → j < 3 → home homes i j ≡ home_of t p (is_section j) i
   unfolding chart_of
   home_is i j hi hj =
-      let lock = get_d_filled 64 0 (λ k. home_of t p true k) t.n i 0 hi in
+      let lock = get_or-filled 64 0 (λ k. home_of t p true k) t.n i 0 hi in
       threes_at p.processor (locks_of t p) p.processor t.n g.rows.1 (λ j. home_of t p (is_section j) i) i hi refl lock refl j hj
 
   -- the sections of one resource are on one processor
@@ -94,8 +94,8 @@ module _ (t : Table) (p : Plan) (g : GoodTable t) where
   top_is i hi = go t.npp
     where
       go : (npp : Bool) → get_or (cond npp (blank 64 0) (of_resource t.ceiling t.resource t.n)) i 0 ≡ cond npp 0 (ceiling i)
-      go true = get_d_blank 64 0 i
-      go false = get_d_filled 64 0 ceiling t.n i 0 hi
+      go true = get_or-blank 64 0 i
+      go false = get_or-filled 64 0 ceiling t.n i 0 hi
 
   -- the ceiling of a resource is at or above the rank of each of its users
   pub top_user : (i k : ℕ) → i < t.n → k < t.n → 1 ≤ get_or t.resource i 0 → get_or t.resource i 0 ≡ get_or t.resource k 0
@@ -109,7 +109,7 @@ module _ (t : Table) (p : Plan) (g : GoodTable t) where
       best : ceiling k ≡ ceiling_of t.resource t.rank t.n r
       best =
           ap (λ (l : List ℕ). get_or l r 0) g.ceilings
-          ∙ get_d_tab 17 (ceiling_of t.resource t.rank t.n) r 0 (omega (arith, (g.tasks k hk).resource))
+          ∙ get_or-tab 17 (ceiling_of t.resource t.rank t.n) r 0 (omega (arith, (g.tasks k hk).resource))
 
       user : uses (get_or t.resource i 0) r ≡ true
       user = rw (lt-ltb 0 r (omega arith), eq-eqb (get_or t.resource i 0) r same)
@@ -158,7 +158,7 @@ module _ (t : Table) (p : Plan) (g : GoodTable t) where
       demand_on (by_rank t t.period) lens on (get_or on (rank i) 0) (rank i) time
       ∙ total_ext (rank i) _ _ (λ r l.
       let hr : r < t.n = omega (arith, rank_lt i hi) in
-      rw (at_its_rank on at there i hi, there r hr, long r hr, get_d_in_rank t.rank t.n t.period r hr))
+      rw (at_its_rank on at there i hi, there r hr, long r hr, get_or-in_rank t.rank t.n t.period r hr))
 
   -- that of the plan's terms, for sections and for stages
   demand_is : (section : Bool) (i time : ℕ) → i < t.n
@@ -167,10 +167,10 @@ module _ (t : Table) (p : Plan) (g : GoodTable t) where
   unfolding section_terms section_homes stage_terms stage_homes
   demand_is true =
       demand_before (by_rank t t.a) (section_homes t p) (work_of t true) (home_of t p true)
-      (get_d_in_rank t.rank t.n t.a) (of_resource_lem t g p.serves)
+      (get_or-in_rank t.rank t.n t.a) (of_resource_lem t g p.serves)
   demand_is false =
       demand_before (works_of (by_rank t t.c1) (by_rank t t.c2) t.n) (stage_homes t p) (work_of t false) (home_of t p false)
-      (works_of_lem t g) (get_d_in_rank t.rank t.n p.processor)
+      (works_of_lem t g) (get_or-in_rank t.rank t.n p.processor)
 
   -- of the three parts of row i those of the kind count, if its processor for them is q: C1 + C2 are two of them
   parts_of : (section : Bool) (i q c : ℕ) → i < t.n

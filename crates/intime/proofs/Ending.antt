@@ -11,7 +11,7 @@ use lib.ListN.{get_or, set}
 use lib.Dec.{ltb}
 use Rattle.lists.proofs.Sets.{set-within}
 use Rattle.lists.proofs.First.{first_none}
-use Rattle.lists.proofs.Tab.{get_d_blank}
+use Rattle.lists.proofs.Tab.{get_or-blank}
 use Rattle.chain.specs.declared.Place.{Place}
 use Rattle.chain.specs.declared.Place.TheVariants.{Idle, Waiting, Running}
 use Rattle.chain.specs.declared.Job.{Job}
@@ -37,7 +37,7 @@ module _ (s : System) where
   -- no row is late in any tick
   pub no_late : (t : ℕ) → late_at s.chart s.ar t ≡ count s
   unfolding late_at late_row job
-  no_late t = first_none (count s) (λ i. late s.chart.bounds i t (job_at (jobs_at s.chart s.ar t) i) (s.ar i t)) (λ i hi. (release s t (always s t) i hi).in-time)
+  no_late t = first_none (count s) (λ i. late s.chart.bounds i t (job_at (jobs_at s.chart s.ar t) i) (s.ar i t)) (λ i hi. (release s t (always s t) i hi).in_time)
 
   -- a part of positive length is released whole, at its tick
   pub on_time : (i a j : ℕ) (ls : List ℕ) → i < count s → j < 3 → s.ar i a ≡ some ls → 1 ≤ get_or ls j 0
@@ -167,7 +167,7 @@ module _ (s : System) where
   -- so the worst responses are, from the empty start on
   worst_within : (t : ℕ) → Within (worst_at s.chart s.ar t)
   unfolding worst_at worse
-  worst_within zero = λ k. omega (arith, get_d_blank {A = ℕ} 192 0 k)
+  worst_within zero = λ k. omega (arith, get_or-blank {A = ℕ} 192 0 k)
   worst_within (suc t) = notes_within t s.chart.m (worst_at s.chart s.ar t) (worst_within t)
 
   -- every worst response is at most the bound

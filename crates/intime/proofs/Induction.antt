@@ -4,7 +4,7 @@ use mathlib.Core.Path.{◌≡◌, refl, sym, ap, subst}
 use native.Mathlib.Nat.{add-suc, add-zero}
 use native.Mathlib.Decide.{dec_le}
 use native.Mathlib.Omega.{arith}
-use Rattle.lists.proofs.Tab.{get_d_blank}
+use Rattle.lists.proofs.Tab.{get_or-blank}
 use Rattle.busy.proofs.Window.{by_strong}
 use Rattle.chain.specs.declared.Place.{Place}
 use Rattle.chain.specs.declared.Place.TheVariants.{Idle, Waiting, Running}
@@ -23,7 +23,7 @@ module _ (s : System) where
   -- before tick 0 no task has arrived
   start_is : (i : ℕ) → job s 0 i ≡ no_job
   unfolding job jobs_at
-  start_is i = get_d_blank 64 no_job i
+  start_is i = get_or-blank 64 no_job i
 
   -- all are idle
   start_ok : Ok s 0

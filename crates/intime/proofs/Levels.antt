@@ -11,7 +11,7 @@ use lib.Dec.{eqb}
 use Rattle.lists.specs.Total.{total}
 use Rattle.lists.proofs.Tests.{both}
 use Rattle.lists.proofs.Total.{total-zero, total_spike}
-use Rattle.lists.proofs.Tab.{get_d_blank}
+use Rattle.lists.proofs.Tab.{get_or-blank}
 use Rattle.bounds.specs.Demand.{ceil}
 use Rattle.busy.proofs.Window.{window}
 use Rattle.chain.specs.declared.Place.TheVariants.{Running}
@@ -53,7 +53,7 @@ module _ (s : System) (section : Bool) (q k : ℕ) where
   empty = total-zero (suc k) _ (λ r hr. total-zero 3 _ (λ j hj. idle r j (on (homes s) section q (s.row r) j)))
     where
       idle : (r j : ℕ) (b : Bool) → cond b (left (job s 0 (s.row r)).place j) 0 ≡ 0
-      idle r j true = ap (λ (x : Job). left x.place j) (get_d_blank 64 no_job (s.row r))
+      idle r j true = ap (λ (x : Job). left x.place j) (get_or-blank 64 no_job (s.row r))
       idle r j false = refl
 
 -- the kind and the processor of a part

@@ -11,7 +11,7 @@ use borrow.Author.Tests.{eqb-true, eqb-false}
 use lib.ListN.{get_or}
 use lib.Dec.{eqb}
 use Rattle.lists.proofs.Tests.{clash}
-use Rattle.lists.proofs.Tab.{get_d_tab}
+use Rattle.lists.proofs.Tab.{get_or-tab}
 use Rattle.chain.specs.declared.Place.{Place}
 use Rattle.chain.specs.declared.Place.TheVariants.{Idle, Waiting, Running}
 use Rattle.chain.specs.declared.Job.{Job}
@@ -75,7 +75,7 @@ module _ (s : System) where
   -- the table of the picks has the pick of each processor
   pub picked_is : (t q : ℕ) → q < 17 → get_or (picked s.chart (released_at s.chart s.ar t)) q 0 ≡ runner s t q
   unfolding picked runner
-  picked_is t q h = get_d_tab 17 (pick (homes s) s.chart.rank s.chart.top (count s) (released_at s.chart s.ar t)) q 0 h
+  picked_is t q h = get_or-tab 17 (pick (homes s) s.chart.rank s.chart.top (count s) (released_at s.chart s.ar t)) q 0 h
 
   -- a row runs a unit where its part's processor picks it
   pub data Served (t i : ℕ) : Type 0 where

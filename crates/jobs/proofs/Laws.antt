@@ -10,8 +10,8 @@ use borrow.Author.Tests.{lt-ltb, le-ltb, ne_eqb}
 use lib.ListN.{get_or, length, set, length-set}
 use lib.Seq.{sets, length-sets, ext_get_or, get_or-set_same, get_or-set_other}
 use Rattle.lists.specs.Tab.{tab, blank}
-use Rattle.lists.proofs.Tab.{length-tab, get_d_tab, get_d_blank, length-blank}
-use Rattle.lists.proofs.Sets.{get_d_beside, get_d_within}
+use Rattle.lists.proofs.Tab.{length-tab, get_or-tab, get_or-blank, length-blank}
+use Rattle.lists.proofs.Sets.{get_or-beside, get_or-within}
 use Rattle.chain.specs.declared.Place.{Place}
 use Rattle.chain.specs.declared.Place.TheVariants.{Idle, Waiting, Running}
 use Rattle.chain.specs.declared.Job.{Job}
@@ -27,11 +27,11 @@ length-jobs flat = length-tab 64 (job_in flat)
 -- row i's is what its nine numbers say
 pub jobs_at_lem : (flat : List ℕ) (i : ℕ) → i < 64 → job_at (jobs_in flat) i ≡ job_in flat i
 unfolding jobs_in
-jobs_at_lem flat i h = get_d_tab 64 (job_in flat) i no_job h
+jobs_at_lem flat i h = get_or-tab 64 (job_in flat) i no_job h
 
 -- 64 jobs are given by the job of each row
 pub jobs_are : (js : List Job) (f : ℕ → Job) → length js ≡ 64 → ((i : ℕ) → i < 64 → job_at js i ≡ f i) → js ≡ tab 64 f
-jobs_are js f l h = ext_get_or no_job js (tab 64 f) (l ∙ sym (length-tab 64 f)) (λ i k. let m : i < 64 = omega arith in h i m ∙ sym (get_d_tab 64 f i no_job m))
+jobs_are js f l h = ext_get_or no_job js (tab 64 f) (l ∙ sym (length-tab 64 f)) (λ i k. let m : i < 64 = omega arith in h i m ∙ sym (get_or-tab 64 f i no_job m))
 
 -- it has three lengths
 pub lens_in : (flat : List ℕ) (i : ℕ) → length (job_in flat i).lens ≡ 3
@@ -92,12 +92,12 @@ jobs_put flat i x h l p q =
     put = sets flat (9 * i) (numbers_of x)
 
     here : job_in put i ≡ job_in (numbers_of x) 0
-    here = same_job put (numbers_of x) i 0 (λ j m. rw (zero-add j) (get_d_within 0 (numbers_of x) flat (9 * i) j (omega arith) m))
+    here = same_job put (numbers_of x) i 0 (λ j m. rw (zero-add j) (get_or-within 0 (numbers_of x) flat (9 * i) j (omega arith) m))
 
     there : (k : ℕ) → (k ≡ i → ⊥) → job_in put k ≡ job_in flat k
-    there k e = same_job put flat k k (λ j m. get_d_beside 0 (numbers_of x) flat (9 * i) (9 * k + j) (λ b. omega arith))
+    there k e = same_job put flat k k (λ j m. get_or-beside 0 (numbers_of x) flat (9 * i) (9 * k + j) (λ b. omega arith))
 
 -- blank numbers stand for tasks that have not arrived
 pub jobs_blank : jobs_in (blank 576 0) ≡ blank 64 no_job
 unfolding jobs_in job_in place_in
-jobs_blank = sym (jobs_are (blank 64 no_job) (job_in (blank 576 0)) (length-blank 64 no_job) (λ i h. get_d_blank 64 no_job i ∙ sym (same_job (blank 576 0) [] i 0 (λ j m. get_d_blank 576 0 (9 * i + j)))))
+jobs_blank = sym (jobs_are (blank 64 no_job) (job_in (blank 576 0)) (length-blank 64 no_job) (λ i h. get_or-blank 64 no_job i ∙ sym (same_job (blank 576 0) [] i 0 (λ j m. get_or-blank 576 0 (9 * i + j)))))

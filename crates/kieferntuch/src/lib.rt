@@ -15,7 +15,7 @@ use run::Ran;
 
 // The number of the refusal, 0 if there is none, what it names, its mark, and its value.
 #[repr(C)]
-#[derive(Drop)]
+#[derive(Clone, Copy)]
 pub struct Answer {
     pub number: u32,
     pub names: u32,

@@ -28,7 +28,7 @@ fn put_byte(out: &mut [u8], at: usize, b: u8) -> usize
 }
 
 // A number's digits, at the end of ten places.
-#[derive(Drop)]
+#[derive(Clone, Copy)]
 struct Digits {
     places: [u8; 10],
     from: usize,

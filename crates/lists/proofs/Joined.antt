@@ -39,12 +39,12 @@ module _ {A : Type 0} where
     length-joined (suc n) = simp length-append (omega (arith, length-joined n, size n, mul-suc w n))
 
     -- element j of list i
-    pub get_d_joined : (n i j : ℕ) (d : A) → i < n → j < w → get_or (joined n f) (w * i + j) d ≡ get_or (f i) j d
+    pub get_or-joined : (n i j : ℕ) (d : A) → i < n → j < w → get_or (joined n f) (w * i + j) d ≡ get_or (f i) j d
     unfolding joined
-    get_d_joined zero i j d k l = absurd (omega arith)
-    get_d_joined (suc n) i j d k l =
+    get_or-joined zero i j d k l = absurd (omega arith)
+    get_or-joined (suc n) i j d k l =
         dite (dec_lt i n)
-        (λ m. get_or-append (joined n f) (f n) d (w * i + j) (omega (arith, length-joined n, mul-suc w i, mul-le-mul_left w m)) ∙ get_d_joined n i j d m l)
+        (λ m. get_or-append (joined n f) (f n) d (w * i + j) (omega (arith, length-joined n, mul-suc w i, mul-le-mul_left w m)) ∙ get_or-joined n i j d m l)
         (λ m.
         let e : i ≡ n = omega arith in
         let at : w * i + j ≡ length (joined n f) + j = omega (arith, length-joined n, ap (λ (x : ℕ). w * x) e) in

@@ -28,17 +28,17 @@ module _ {A : Type 0} where
   stored_length l at u e = ap length e ∙ length-sets l at u
 
   -- what is read after a run of stores: beside it what stood there,
-  pub get_d_beside : (d : A) (u l : List A) (at k : ℕ) → (at ≤ k → at + length u ≤ k) → get_or (sets l at u) k d ≡ get_or l k d
-  get_d_beside d [] l at k h = refl
-  get_d_beside d (a ∷ u) l at k h = get_d_beside d u (set l at a) (suc at) k (λ m. omega (arith, h (omega arith))) ∙ get_or-set_other l at k a d (λ e. omega (arith, h (omega arith)))
+  pub get_or-beside : (d : A) (u l : List A) (at k : ℕ) → (at ≤ k → at + length u ≤ k) → get_or (sets l at u) k d ≡ get_or l k d
+  get_or-beside d [] l at k h = refl
+  get_or-beside d (a ∷ u) l at k h = get_or-beside d u (set l at a) (suc at) k (λ m. omega (arith, h (omega arith))) ∙ get_or-set_other l at k a d (λ e. omega (arith, h (omega arith)))
 
   -- and within it what was stored
-  pub get_d_within : (d : A) (u l : List A) (at j : ℕ) → at + length u ≤ length l → j < length u → get_or (sets l at u) (at + j) d ≡ get_or u j d
-  get_d_within d [] l at j h m = absurd (omega arith)
-  get_d_within d (a ∷ u) l at zero h m = rw (add-zero at) (get_d_beside d u (set l at a) (suc at) at (λ m. absurd (omega arith)) ∙ get_or-set_same l at a d (omega arith))
-  get_d_within d (a ∷ u) l at (suc j) h m =
+  pub get_or-within : (d : A) (u l : List A) (at j : ℕ) → at + length u ≤ length l → j < length u → get_or (sets l at u) (at + j) d ≡ get_or u j d
+  get_or-within d [] l at j h m = absurd (omega arith)
+  get_or-within d (a ∷ u) l at zero h m = rw (add-zero at) (get_or-beside d u (set l at a) (suc at) at (λ m. absurd (omega arith)) ∙ get_or-set_same l at a d (omega arith))
+  get_or-within d (a ∷ u) l at (suc j) h m =
       let e : at + suc j ≡ suc at + j = omega arith in
-      rw e (get_d_within d u (set l at a) (suc at) j (omega (arith, length-set l at a)) (omega arith))
+      rw e (get_or-within d u (set l at a) (suc at) j (omega (arith, length-set l at a)) (omega arith))
 
   -- one more store of a run that is copied
   pub sets_more : (l : List A) (at : ℕ) (s : List A) (i : ℕ) (d : A) → i < length s → set (sets l at (take i s)) (at + i) (get_or s i d) ≡ sets l at (take (i + 1) s)

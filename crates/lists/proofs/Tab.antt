@@ -18,12 +18,12 @@ length-tab zero f = refl
 length-tab (suc n) f = simp length-append (omega (arith, length-tab n f))
 
 -- and at each of them what the rule gives
-pub get_d_tab : {A : Type 0} (n : ℕ) (f : ℕ → A) (k : ℕ) (d : A) → k < n → get_or (tab n f) k d ≡ f k
+pub get_or-tab : {A : Type 0} (n : ℕ) (f : ℕ → A) (k : ℕ) (d : A) → k < n → get_or (tab n f) k d ≡ f k
 unfolding tab
-get_d_tab zero f k d h = absurd (omega arith)
-get_d_tab (suc n) f k d h =
+get_or-tab zero f k d h = absurd (omega arith)
+get_or-tab (suc n) f k d h =
     dite (dec_lt k n)
-    (λ l. get_or-append (tab n f) (f n ∷ []) d k (omega (arith, length-tab n f)) ∙ get_d_tab n f k d l)
+    (λ l. get_or-append (tab n f) (f n ∷ []) d k (omega (arith, length-tab n f)) ∙ get_or-tab n f k d l)
     (λ l.
     let e : k ≡ n = omega arith in
     rw e (get_or_at (tab n f) (f n) [] d n (length-tab n f)))
@@ -39,9 +39,9 @@ pub tab-set : {A : Type 0} (n : ℕ) (f g : ℕ → A) (k : ℕ) (v : A) → v �
 tab-set n f g k v e h =
     ext_get_or v (set (tab n f) k v) (tab n g) (length-set (tab n f) k v ∙ length-tab n f ∙ sym (length-tab n g)) (λ i m.
     let l : i < n = omega (arith, length-set (tab n f) k v, length-tab n f) in
-    sym (get_d_tab n g i v l ∙ dite (ℕ_discrete i k)
+    sym (get_or-tab n g i v l ∙ dite (ℕ_discrete i k)
     (λ q. rw (q, sym e, get_or-set_same (tab n f) k v v (omega (arith, length-tab n f))))
-    (λ q. sym (get_or-set_other (tab n f) k i v v q ∙ get_d_tab n f i v l ∙ h i q))))
+    (λ q. sym (get_or-set_other (tab n f) k i v v q ∙ get_or-tab n f i v l ∙ h i q))))
 
 -- a list by its first places and the others
 pub tab-append : {A : Type 0} (m n : ℕ) (f : ℕ → A) → tab (m + n) f ≡ tab m f ++ tab n (λ i. f (m + i))
@@ -81,14 +81,14 @@ module _ {A : Type 0} (size : ℕ) (z : A) (f : ℕ → A) where
       rw (e, append-nil)
 
   -- a filled place
-  pub get_d_filled : (n k : ℕ) (d : A) → k < n → get_or (filled size z n f) k d ≡ f k
+  pub get_or-filled : (n k : ℕ) (d : A) → k < n → get_or (filled size z n f) k d ≡ f k
   unfolding filled
-  get_d_filled n k d h = get_or-append (tab n f) (replicate (size - n) z) d k (omega (arith, length-tab n f)) ∙ get_d_tab n f k d h
+  get_or-filled n k d h = get_or-append (tab n f) (replicate (size - n) z) d k (omega (arith, length-tab n f)) ∙ get_or-tab n f k d h
 
   -- the places behind the filled ones
-  pub get_d_rest : (n k : ℕ) (d : A) → n ≤ k → k < size → get_or (filled size z n f) k d ≡ z
+  pub get_or-rest : (n k : ℕ) (d : A) → n ≤ k → k < size → get_or (filled size z n f) k d ≡ z
   unfolding filled
-  get_d_rest n k d h l =
+  get_or-rest n k d h l =
       let e : k ≡ length (tab n f) + (k - n) = omega (arith, length-tab n f) in
       ap (λ (i : ℕ). get_or (tab n f ++ replicate (size - n) z) i d) e
       ∙ get_or-append-add (tab n f) (replicate (size - n) z) (k - n) d
@@ -118,11 +118,11 @@ tab_filled size z n f g h same rest =
     ap (λ (k : ℕ). tab k f) e ∙ tab-append n (size - n) f ∙ rw (tab_same n f g same, tab_const (size - n) z (λ i. f (n + i)) (λ i l. rest (n + i) (omega arith) (omega arith)))
 
 -- no place of a blank array differs, nor does what is read past its end
-pub get_d_blank : {A : Type 0} (size : ℕ) (z : A) (k : ℕ) → get_or (blank size z) k z ≡ z
+pub get_or-blank : {A : Type 0} (size : ℕ) (z : A) (k : ℕ) → get_or (blank size z) k z ≡ z
 unfolding blank
-get_d_blank zero z k = refl
-get_d_blank (suc size) z zero = refl
-get_d_blank (suc size) z (suc k) = get_d_blank size z k
+get_or-blank zero z k = refl
+get_or-blank (suc size) z zero = refl
+get_or-blank (suc size) z (suc k) = get_or-blank size z k
 
 -- a blank array has its size
 pub length-blank : {A : Type 0} (n : ℕ) (z : A) → length (blank n z) ≡ n

@@ -10,7 +10,7 @@ use native.Mathlib.Decide.{dec_lt}
 use lib.Dec.{ltb, eqb}
 use lib.ListN.{length, get_or, set, length-set, get_or-eq_default}
 use Rattle.lists.specs.Tab.{tab}
-use Rattle.lists.proofs.Tab.{get_d_filled, get_d_rest, get_d_tab, get_d_blank, length-tab, length-blank}
+use Rattle.lists.proofs.Tab.{get_or-filled, get_or-rest, get_or-tab, get_or-blank, length-tab, length-blank}
 use Rattle.chain.specs.declared.Place.{Place}
 use Rattle.chain.specs.declared.Place.TheVariants.{Idle, Waiting, Running}
 use Rattle.chain.specs.declared.Job.{Job}
@@ -33,7 +33,7 @@ good_none = record { arrived = omega arith; part = omega arith }
 -- row i's job once the releases of a tick are in
 pub releases_at : (n : ℕ) (bounds : List ℕ) (ar : Arrivals) (t : ℕ) (js : List Job) (i : ℕ) → i < n → job_at (releases n bounds ar t js) i ≡ released bounds i t (job_at js i) (ar i t)
 unfolding releases
-releases_at n bounds ar t js i h = get_d_filled 64 no_job (λ k. released bounds k t (job_at js k) (ar k t)) n i no_job h
+releases_at n bounds ar t js i h = get_or-filled 64 no_job (λ k. released bounds k t (job_at js k) (ar k t)) n i no_job h
 
 module _ (n : ℕ) (bounds : List ℕ) (ar : Arrivals) (t : ℕ) (js : List Job) (good : GoodJobs n t js) (h : t ≤ 1000000) where
   -- a job is good, has ended at most twice more, and has not run or begun
@@ -53,7 +53,7 @@ module _ (n : ℕ) (bounds : List ℕ) (ar : Arrivals) (t : ℕ) (js : List Job)
   all_good i l =
       dite (dec_lt i n)
       (λ k. (good_releases i k).0)
-      (λ k. rw (get_d_rest 64 no_job (λ k. released bounds k t (job_at js k) (ar k t)) n i no_job (omega arith) l) good_none)
+      (λ k. rw (get_or-rest 64 no_job (λ k. released bounds k t (job_at js k) (ar k t)) n i no_job (omega arith) l) good_none)
 
 -- a job has run a unit of its running part, or is as it was
 pub serve_cases : (P : Job → Type 0) (rows bounds homes : List ℕ) (t i : ℕ) (x : Job) → P x → ((j l : ℕ) → x.place ≡ Running j l → P (unit_of bounds i t x j l)) → P (serve rows bounds homes t i x)
@@ -94,7 +94,7 @@ module _ (c : Chart) where
   -- row i's job after the units of a tick
   pub units_at : (t : ℕ) (js : List Job) (i : ℕ) → i < c.n → job_at (units c t js) i ≡ serve (picked c js) c.bounds c.homes t i (job_at js i)
   unfolding units
-  units_at t js i h = get_d_filled 64 no_job (λ k. serve (picked c js) c.bounds c.homes t k (job_at js k)) c.n i no_job h
+  units_at t js i h = get_or-filled 64 no_job (λ k. serve (picked c js) c.bounds c.homes t k (job_at js k)) c.n i no_job h
 
   module _ (ar : Arrivals) where
     -- a tick keeps the jobs good
@@ -116,14 +116,14 @@ module _ (c : Chart) where
     -- so it is before each tick
     pub good_at : (t : ℕ) → t ≤ 1000000 → GoodJobs c.n t (jobs_at c ar t)
     unfolding jobs_at
-    good_at zero h = λ i l. rw (get_d_blank 64 no_job i) (good_none, record { ended = omega arith; ran = omega arith; begun = omega arith })
+    good_at zero h = λ i l. rw (get_or-blank 64 no_job i) (good_none, record { ended = omega arith; ran = omega arith; begun = omega arith })
     good_at (suc t) h = good_step t (jobs_at c ar t) (good_at t (omega arith)) (omega arith)
 
     -- no task of a row past n arrives
     pub past_at : (t i : ℕ) → c.n ≤ i → i < 64 → job_at (jobs_at c ar t) i ≡ no_job
     unfolding jobs_at step units
-    past_at zero i h l = get_d_blank 64 no_job i
-    past_at (suc t) i h l = get_d_rest 64 no_job _ c.n i no_job h l
+    past_at zero i h l = get_or-blank 64 no_job i
+    past_at (suc t) i h l = get_or-rest 64 no_job _ c.n i no_job h l
 
     -- three worst responses are kept for each of 64 rows
     pub length-worst : (t : ℕ) → length (worst_at c ar t) ≡ 192
@@ -137,7 +137,7 @@ module _ (c : Chart) where
   picked_pick js q i e =
       let f = pick c.homes c.rank c.top c.n js in
       dite (dec_lt q 17)
-      (λ l. (l, sym (get_d_tab 17 f q 0 l) ∙ e))
+      (λ l. (l, sym (get_or-tab 17 f q 0 l) ∙ e))
       (λ l. absurd (omega (arith, get_or-eq_default (tab 17 f) 0 {n = q} (omega (arith, length-tab 17 f)))))
 
   -- and runs a part there

@@ -4,7 +4,7 @@ use mathlib.Core.Path.{◌≡◌}
 use mathlib.Core.Bool.{true}
 use mathlib.Core.List.{List}
 use lib.ListN.{get_or}
-use Rattle.lists.proofs.Tab.{get_d_blank}
+use Rattle.lists.proofs.Tab.{get_or-blank}
 use Rattle.table.specs.declared.Table.{Table}
 use Rattle.plan.specs.declared.Plan.{Plan}
 use Rattle.chain.specs.declared.Job.{Job}
@@ -16,7 +16,7 @@ module _ (t : Table) (p : Plan) (npp : t.npp ≡ true) where
   -- every ceiling is 0
   pub npp_flat : (i : ℕ) → get_or (chart_of t p).top i 0 ≡ 0
   unfolding chart_of tops_of
-  npp_flat i = rw npp (get_d_blank 64 0 i)
+  npp_flat i = rw npp (get_or-blank 64 0 i)
 
   -- the chart
   abbrev c : Chart

@@ -30,7 +30,7 @@ use Rattle.jobs.specs.Numbers.{job_in, jobs_in}
 use Rattle.jobs.proofs.Laws.{length-jobs, jobs_at_lem}
 use Rattle.machine.specs.Tick.{Arrivals, releases, late_row}
 use Rattle.machine.specs.Good.{Dues, Held, Coming}
-use Rattle.machine.proofs.Served.{get_d_next, write_next}
+use Rattle.machine.proofs.Served.{get_or-next, write_next}
 
 -- an arrival that came stands in the list
 pub stands : (came b : Bool) (at count : ℕ) → came ≡ (ltb at count && b) → came ≡ true → at < count
@@ -69,12 +69,12 @@ module _ {n next t : ℕ} {bounds start dues₀ : List ℕ} {xs : List Arrival} 
   -- before the first row nothing has changed
   pub started : Went-on bounds xs t start n 0 start dues₀ next
   unfolding tab
-  started = record { whole = held.whole; column = held.column; jobs = refl; dues_are = held.dues-are; seek = coming.seek; on_time = λ k h. absurd (omega arith) }
+  started = record { whole = held.whole; column = held.column; jobs = refl; dues_are = held.dues_are; seek = coming.seek; on_time = λ k h. absurd (omega arith) }
 
   module _ {i at : ℕ} {flat dues : List ℕ} (w : Went-on bounds xs t start n i flat dues at) (h : i < n) where
     -- row i's job is as it was before the tick
     waits : job_in flat i ≡ job_at (jobs_in start) i
-    waits = sym (jobs_at_lem flat i (omega (arith, held.few))) ∙ get_d_next (after bounds xs t start) (jobs_in start) i (jobs_in flat) w.jobs no_job
+    waits = sym (jobs_at_lem flat i (omega (arith, held.few))) ∙ get_or-next (after bounds xs t start) (jobs_in start) i (jobs_in flat) w.jobs no_job
 
     -- so it is good
     pub good_here : GoodJob (job_in flat i) × Small t (job_in flat i)
@@ -96,7 +96,7 @@ module _ {n next t : ℕ} {bounds start dues₀ : List ℕ} {xs : List Arrival} 
       -- the row is the first with a release that comes too early
       pub is_late_lem : true ≡ late bounds i t (job_in flat i) gets → i ≡ late_row n bounds (brings xs) t (jobs_in start)
       unfolding late_row
-      is_late_lem l = sym (first_is n (behind bounds xs t start) i h w.on-time (sym (l ∙ late_here)))
+      is_late_lem l = sym (first_is n (behind bounds xs t start) i h w.on_time (sym (l ∙ late_here)))
 
       -- or there is one row more
       pub goes_on : (flat₁ dues₁ : List ℕ) → length flat₁ ≡ 576 → jobs_in flat₁ ≡ set (jobs_in flat) i (released bounds i t (job_in flat i) gets) → dues₁ ≡ set dues i (due_of bounds i (released bounds i t (job_in flat i) gets)) → false ≡ late bounds i t (job_in flat i) gets → Went-on bounds xs t start n (i + 1) flat₁ dues₁ (at + cond came 1 0)
@@ -106,21 +106,21 @@ module _ {n next t : ℕ} {bounds start dues₀ : List ℕ} {xs : List Arrival} 
             whole = size;
             column = rw f (simp length-set w.column);
             jobs = e ∙ write_next (after bounds xs t start) (jobs_in start) i (jobs_in flat) w.jobs no_job x (omega (arith, held.few, length-jobs start)) (rw (waits, brought));
-            dues_are = rw (e, f) (dues_set n bounds (jobs_in flat) dues (omega (arith, held.few, length-jobs flat)) (omega (arith, held.few, w.column)) w.dues-are i x);
+            dues_are = rw (e, f) (dues_set n bounds (jobs_in flat) dues (omega (arith, held.few, length-jobs flat)) (omega (arith, held.few, w.column)) w.dues_are i x);
             seek = rw (add-one i, here) (seek_next n _ _ _ _ xs coming.good held.few at i t (omega (arith, held.few)) w.seek);
-            on_time = below_more (λ k. behind bounds xs t start k ≡ false) i w.on-time (sym (l ∙ late_here));
+            on_time = below_more (λ k. behind bounds xs t start k ≡ false) i w.on_time (sym (l ∙ late_here));
           }
 
     -- which stays as it is, where nothing comes and its next release is not due yet
     pub stays : false ≡ (ltb at (length xs) && is_of xs i t at) → t < get_or dues i 0 → Went-on bounds xs t start n (i + 1) flat dues at
     stays here l =
         let x = jobs_at_lem flat i (omega (arith, held.few)) in
-        let d : t < due_of bounds i (job_in flat i) = rw (w.dues-are i h, x) at l in
+        let d : t < due_of bounds i (job_in flat i) = rw (w.dues_are i h, x) at l in
         let same = released_before bounds i t (job_in flat i) d in
         rw (add-zero at)
         at (goes_on false here flat dues w.whole
         (sym (set-get_or (jobs_in flat) i no_job) ∙ rw (same, x))
-        (sym (set-get_or dues i 0) ∙ rw (same, w.dues-are i h, x))
+        (sym (set-get_or dues i 0) ∙ rw (same, w.dues_are i h, x))
         (sym (late_before bounds i t (job_in flat i) d)))
 
   -- where none is due and no arrival comes, all stay as they are
@@ -140,10 +140,10 @@ module _ {n next t : ℕ} {bounds start dues₀ : List ℕ} {xs : List Arrival} 
       (n ≡ late_row n bounds (brings xs) t (jobs_in start)) × (n ≡ n → (jobs_in flat ≡ releases n bounds (brings xs) t (jobs_in start)) × Dues n bounds (jobs_in flat) dues × Coming n xs at (suc t))
   unfolding late_row releases filled
   all_in {at = at} w = (
-    sym (first_none n (behind bounds xs t start) w.on-time),
+    sym (first_none n (behind bounds xs t start) w.on_time),
     λ e. (
       w.jobs ∙ ap (λ (ys : List Job). tab n (after bounds xs t start) ++ ys) none_past,
-      w.dues-are,
+      w.dues_are,
       record { periods = _; c1s = _; secs = _; c2s = _; good = coming.good; few = coming.few; seek = seek_tick n _ _ _ _ xs coming.good held.few at t w.seek },
     ),
   )

@@ -35,8 +35,8 @@ byte_runs js (suc i) h =
 -- a list whose first k places are written anew
 module _ {A : Type 0} (f : ℕ → A) (old : List A) (k : ℕ) (now : List A) (e : now ≡ tab k f ++ drop k old) where
   -- the next place is as it was
-  pub get_d_next : (d : A) → get_or now k d ≡ get_or old k d
-  get_d_next d =
+  pub get_or-next : (d : A) → get_or now k d ≡ get_or old k d
+  get_or-next d =
       let s : k ≡ length (tab k f) + 0 = omega (arith, length-tab k f) in
       ap (λ (xs : List A). get_or xs k d) e
       ∙ ap (λ (i : ℕ). get_or (tab k f ++ drop k old) i d) s

@@ -6,8 +6,8 @@ use native.Mathlib.Omega.{arith}
 use lib.ListN.{length, get_or, drop, get_or-append}
 use lib.Seq.{sets, sets-eq, length-sets, get_or-append-add, get_or-drop}
 use Rattle.lists.specs.Tab.{joined, blank}
-use Rattle.lists.proofs.Tab.{length-blank, get_d_blank}
-use Rattle.lists.proofs.Joined.{length-joined, get_d_joined, joined_front}
+use Rattle.lists.proofs.Tab.{length-blank, get_or-blank}
+use Rattle.lists.proofs.Joined.{length-joined, get_or-joined, joined_front}
 use Rattle.machine.specs.Chart.{threes}
 
 module _ (xs ys zs : List ℕ) where
@@ -46,20 +46,20 @@ module _ (xs ys zs : List ℕ) where
 
   module _ (n : ℕ) (few : n ≤ 64) where
     -- number j of row i
-    get_d_threes : (i j : ℕ) → i < n → j < 3 → get_or (threes xs ys zs n) (3 * i + j) 0 ≡ get_or (row i) j 0
-    get_d_threes i j h l =
+    get_or-threes : (i j : ℕ) → i < n → j < 3 → get_or (threes xs ys zs n) (3 * i + j) 0 ≡ get_or (row i) j 0
+    get_or-threes i j h l =
         rw (threes-eq n few)
-        (get_or-append (joined n row) (drop (3 * n) (blank 192 0)) 0 (3 * i + j) (omega (arith, length-rows n)) ∙ get_d_joined 3 row (λ i. refl) n i j 0 h l)
+        (get_or-append (joined n row) (drop (3 * n) (blank 192 0)) 0 (3 * i + j) (omega (arith, length-rows n)) ∙ get_or-joined 3 row (λ i. refl) n i j 0 h l)
 
     -- that is, of each of the three columns
     pub threes_first : (i : ℕ) → i < n → get_or (threes xs ys zs n) (3 * i + 0) 0 ≡ get_or xs i 0
-    threes_first i h = get_d_threes i 0 h (omega arith)
+    threes_first i h = get_or-threes i 0 h (omega arith)
 
     pub threes_second : (i : ℕ) → i < n → get_or (threes xs ys zs n) (3 * i + 1) 0 ≡ get_or ys i 0
-    threes_second i h = get_d_threes i 1 h (omega arith)
+    threes_second i h = get_or-threes i 1 h (omega arith)
 
     pub threes_third : (i : ℕ) → i < n → get_or (threes xs ys zs n) (3 * i + 2) 0 ≡ get_or zs i 0
-    threes_third i h = get_d_threes i 2 h (omega arith)
+    threes_third i h = get_or-threes i 2 h (omega arith)
 
     -- what is known of the three at row i is known at each of its places
     pub threes_at : (f : ℕ → ℕ) (i : ℕ) → i < n → get_or xs i 0 ≡ f 0 → get_or ys i 0 ≡ f 1 → get_or zs i 0 ≡ f 2 → (j : ℕ) → j < 3 → get_or (threes xs ys zs n) (3 * i + j) 0 ≡ f j
@@ -76,4 +76,4 @@ module _ (xs ys zs : List ℕ) where
         (ap (λ (p : ℕ). get_or (joined n row ++ drop (3 * n) (blank 192 0)) p 0) at
         ∙ get_or-append-add (joined n row) (drop (3 * n) (blank 192 0)) (k - 3 * n) 0
         ∙ get_or-drop (3 * n) (blank 192 0) (k - 3 * n) 0
-        ∙ get_d_blank 192 0 (3 * n + (k - 3 * n)))
+        ∙ get_or-blank 192 0 (3 * n + (k - 3 * n)))

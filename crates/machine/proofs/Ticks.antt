@@ -6,7 +6,7 @@ use mathlib.Core.List.{List}
 use mathlib.Core.Option.{some}
 use native.Mathlib.Omega.{arith}
 use lib.ListN.{get_or}
-use Rattle.lists.proofs.Tab.{get_d_blank}
+use Rattle.lists.proofs.Tab.{get_or-blank}
 use Rattle.lists.proofs.First.{first_no}
 use Rattle.chain.specs.declared.Job.{Job}
 use Rattle.chain.specs.Job.{no_job, job_at}
@@ -52,7 +52,7 @@ module _ (c : Chart) (periods c1s secs c2s : List ℕ) (xs : List Arrival) (good
   -- so every job is sound, before each tick and once its releases are in
   sound_at : (t i : ℕ) → i < c.n → Sound (get_or secs i 0) (job_at (jobs_at c (brings xs) t) i)
   unfolding jobs_at
-  sound_at zero i l = rw (get_d_blank 64 no_job i) (sound_none (get_or secs i 0))
+  sound_at zero i l = rw (get_or-blank 64 no_job i) (sound_none (get_or secs i 0))
   sound_at (suc t) i l = rw (served_at c (brings xs) t i l) (sound_serve c.bounds i t (get_or secs i 0) _ (sound_from t i l (sound_at t i l)) (picked c (released_at c (brings xs) t)) c.homes)
 
   pub sound_mid : (t i : ℕ) → i < c.n → Sound (get_or secs i 0) (job_at (released_at c (brings xs) t) i)
@@ -70,7 +70,7 @@ module _ (c : Chart) (periods c1s secs c2s : List ℕ) (xs : List Arrival) (good
     -- and what all ticks before tick e add
     row_count : (e i : ℕ) → i < c.n → ((t : ℕ) → t < e → c.n ≤ late_at c (brings xs) t) → count (job_at (jobs_at c (brings xs) e) i) ≡ total e (λ t. added adds (brings xs i t))
     unfolding jobs_at total
-    row_count zero i l h = ap count (get_d_blank 64 no_job i) ∙ law.start
+    row_count zero i l h = ap count (get_or-blank 64 no_job i) ∙ law.start
     row_count (suc e) i l h = omega (arith, row_step e i l (h e (omega arith)), row_count e i l (λ t k. h t (omega arith)))
 
     -- the sum over the rows

@@ -7,7 +7,7 @@ use native.Mathlib.Omega.{arith}
 use lib.Dec.{ltb}
 use lib.ListN.{get_or, set}
 use lib.Seq.{get_or-set_other}
-use Rattle.lists.proofs.Tab.{get_d_blank}
+use Rattle.lists.proofs.Tab.{get_or-blank}
 use Rattle.chain.specs.declared.Place.{Place}
 use Rattle.chain.specs.declared.Place.TheVariants.{Idle, Waiting, Running}
 use Rattle.chain.specs.declared.Job.{Job}
@@ -45,7 +45,7 @@ module _ (c : Chart) where
   -- so past row n the worst responses are 0
   pub worst_past : (ar : Arrivals) (t : ℕ) → t ≤ 1000000 → (k : ℕ) → 3 * c.n ≤ k → get_or (worst_at c ar t) k 0 ≡ 0
   unfolding worst_at worse released_at
-  worst_past ar zero h k past = get_d_blank 192 0 k
+  worst_past ar zero h k past = get_or-blank 192 0 k
   worst_past ar (suc t) h k past =
       let there = releases c.n c.bounds ar t (jobs_at c ar t) in
       let good = good_releases c.n c.bounds ar t (jobs_at c ar t) (good_at c ar t (omega arith)) (omega arith) in

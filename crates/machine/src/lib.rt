@@ -32,7 +32,7 @@ pub struct Chart {
 }
 
 // What a run counts: jobs ended, units run and units owed.
-#[derive(Drop)]
+#[derive(Clone, Copy)]
 pub struct Tally {
     pub jobs: u64,
     pub run: u64,
@@ -41,7 +41,7 @@ pub struct Tally {
 
 // The place that the arrivals have come to, and the first row, counted from 0, with a release that comes too early: n if there is
 // none.
-#[derive(Drop)]
+#[derive(Clone, Copy)]
 pub struct Reached {
     pub next: usize,
     pub late: usize,

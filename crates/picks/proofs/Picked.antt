@@ -152,7 +152,7 @@ module _ (homes ranks tops : List ℕ) (n : ℕ) (js : List Job) (q : ℕ) where
   pub pick_is : ((i : ℕ) → i < n → get_or ranks i 0 < 64) → {first last stage : Best} {held : ℕ} → Offered homes ranks tops js n first last stage held q
       → chosen first.row last.row stage.row (ltb first.key held) ≡ pick homes ranks tops n js q
   unfolding pick first_on last_on stage_for clear chosen key_of
-  pick_is ranked o = rw (o.first-is, o.last-is, o.stage_is, o.held-is) (go (first_on homes ranks tops n js q) refl (last_on homes ranks tops n js q))
+  pick_is ranked o = rw (o.first_is, o.last_is, o.stage_is, o.held_is) (go (first_on homes ranks tops n js q) refl (last_on homes ranks tops n js q))
     where
       go : (f : ℕ) → first_on homes ranks tops n js q ≡ f → (y : ℕ)
           → chosen f y (stage_for homes ranks tops n js q) (ltb (key_of 64 (λ i. get_or ranks i 0) f) (lowest (holds homes ranks tops n js q) (λ i. get_or tops i 0) n))

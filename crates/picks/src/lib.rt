@@ -11,7 +11,7 @@ ghost use Rattle.picks.specs.Good.{GoodHomes, GoodPlaces};
 use chain::Place;
 
 // A row, numbered from 1, and its key; row 0 is none.
-#[derive(Drop)]
+#[derive(Clone, Copy)]
 struct Best {
     row: u32,
     key: u32,
@@ -19,7 +19,7 @@ struct Best {
 
 // For each processor, at its number: the best section not yet begun, the section begun last, the best stage, and the best
 // ceiling held.
-#[derive(Drop)]
+#[derive(Clone, Copy)]
 struct Offers {
     first: [Best; 17],
     last: [Best; 17],

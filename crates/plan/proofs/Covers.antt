@@ -11,7 +11,7 @@ use lib.ListN.{get_or}
 use lib.Dec.{eqb}
 use Rattle.rank.specs.Ceiling.{uses}
 use Rattle.rank.specs.Order.{in_rank, in_rows}
-use Rattle.rank.proofs.InRank.{at_lt, get_d_in_rows, at_rank, in_rank_in_rows}
+use Rattle.rank.proofs.InRank.{at_lt, get_or-in_rows, at_rank, in_rank_in_rows}
 use Rattle.table.specs.declared.Table.{Table}
 use Rattle.table.specs.Good.{GoodTable}
 use Rattle.bounds.specs.Terms.{terms_on}
@@ -46,7 +46,7 @@ module _ (t : Table) (g : GoodTable t) (s : ℕ) (whole : (t.n ≤ (sections (ta
   unfolding plan_by section_terms section_homes blocking tasks_of weighed sections homes sections_of
   section_bound_lem i l =
       let k : get_or t.rank i 0 < t.n = at_lt t.period t.rank t.n g.rows.1 g.ranks i l in
-      rw (get_d_in_rows t.rank t.n (sections (tasks_of t) s).bound i l, sym (at_rank t.period t.rank t.n g.rows.1 g.ranks t.a i l))
+      rw (get_or-in_rows t.rank t.n (sections (tasks_of t) s).bound i l, sym (at_rank t.period t.rank t.n g.rows.1 g.ranks t.a i l))
       (section_least t.npp (by_rank t t.period) (by_rank t t.a) (tasks_of t).top (homes (tasks_of t) s) t.n (get_or t.rank i 0) (omega arith)).0
 
   -- the terms of the stages in the plan are those that the trial counts
@@ -69,7 +69,7 @@ module _ (t : Table) (g : GoodTable t) (s : ℕ) (whole : (t.n ≤ (sections (ta
   trial_bounds i l =
       let k : get_or t.rank i 0 < t.n = at_lt t.period t.rank t.n g.rows.1 g.ranks i l in
       let (above, below, first, second, sum) = task_placed (get_or t.rank i 0) k in
-      let row : (column : List ℕ) → get_or (in_rows t.rank t.n column) i 0 ≡ get_or column (get_or t.rank i 0) 0 = λ column. get_d_in_rows t.rank t.n column i l in
+      let row : (column : List ℕ) → get_or (in_rows t.rank t.n column) i 0 ≡ get_or column (get_or t.rank i 0) 0 = λ column. get_or-in_rows t.rank t.n column i l in
       let task : (column : List ℕ) → get_or column i 0 ≡ get_or (in_rank t.rank t.n column) (get_or t.rank i 0) 0 = λ column. sym (at_rank t.period t.rank t.n g.rows.1 g.ranks column i l) in
       record {
         section = section_bound_lem i l;

@@ -5,7 +5,7 @@ use mathlib.Core.List.{List}
 use native.Mathlib.Omega.{arith}
 use lib.ListN.{get_or}
 use Rattle.rank.specs.Order.{row_of, in_rank, numbers_to}
-use Rattle.rank.proofs.InRank.{rank_of_row, get_d_in_rank}
+use Rattle.rank.proofs.InRank.{rank_of_row, get_or-in_rank}
 use Rattle.table.specs.declared.Table.{Table}
 use Rattle.table.specs.Good.{GoodTable}
 use Rattle.spread.specs.Weight.{GoodRows, weights_of, used_of, heaviest_of}
@@ -13,7 +13,7 @@ use Rattle.spread.proofs.Weight.{weights-le, used_le}
 use Rattle.spread.proofs.Order.{heaviest_in}
 use Rattle.plan.specs.Tasks.{works_of, of_resource, weighed, tasks_of}
 use Rattle.plan.specs.Good.{GoodTasks}
-use Rattle.lists.proofs.Tab.{get_d_filled}
+use Rattle.lists.proofs.Tab.{get_or-filled}
 
 module _ (t : Table) (g : GoodTable t) where
   -- the row of a rank is one of the table
@@ -22,20 +22,20 @@ module _ (t : Table) (g : GoodTable t) where
 
   -- task k is the row of rank k
   ordered : (column : List ℕ) (k : ℕ) → k < t.n → get_or (in_rank t.rank t.n column) k 0 ≡ get_or column (row_of t.rank t.n k) 0
-  ordered column k l = get_d_in_rank t.rank t.n column k l
+  ordered column k l = get_or-in_rank t.rank t.n column k l
 
   -- what the resource of task k has, and C1 + C2 of task k
   pub of_resource_lem : (values : List ℕ) (k : ℕ) → k < t.n
       → get_or (of_resource values (in_rank t.rank t.n t.resource) t.n) k 0 ≡ get_or values (get_or t.resource (row_of t.rank t.n k) 0) 0
   of_resource_lem values k l =
-      get_d_filled 64 0 (λ j. get_or values (get_or (in_rank t.rank t.n t.resource) j 0) 0) t.n k 0 l
+      get_or-filled 64 0 (λ j. get_or values (get_or (in_rank t.rank t.n t.resource) j 0) 0) t.n k 0 l
       ∙ ap (λ (r : ℕ). get_or values r 0) (ordered t.resource k l)
 
   -- C1 + C2 of task k are those of its row
   pub works_of_lem : (k : ℕ) → k < t.n
       → get_or (works_of (in_rank t.rank t.n t.c1) (in_rank t.rank t.n t.c2) t.n) k 0 ≡ get_or t.c1 (row_of t.rank t.n k) 0 + get_or t.c2 (row_of t.rank t.n k) 0
   works_of_lem k l =
-      let e = get_d_filled 64 0 (λ j. get_or (in_rank t.rank t.n t.c1) j 0 + get_or (in_rank t.rank t.n t.c2) j 0) t.n k 0 l in
+      let e = get_or-filled 64 0 (λ j. get_or (in_rank t.rank t.n t.c1) j 0 + get_or (in_rank t.rank t.n t.c2) j 0) t.n k 0 l in
       omega (arith, ordered t.c1 k l, ordered t.c2 k l)
 
   -- the rows have good periods, and sections within them
@@ -65,7 +65,7 @@ module _ (t : Table) (g : GoodTable t) where
             (omega (arith, ordered t.period k l, h.period.0), omega (arith, ordered t.period k l, h.period.1));
         sum = λ k l. let h = g.tasks (row_of t.rank t.n k) (row_lt k l) in
             omega (arith, ordered t.period k l, ordered t.c1 k l, ordered t.a k l, ordered t.c2 k l, h.sum.1);
-        works = λ k l. get_d_filled 64 0 (λ k. get_or (in_rank t.rank t.n t.c1) k 0 + get_or (in_rank t.rank t.n t.c2) k 0) t.n k 0 l;
+        works = λ k l. get_or-filled 64 0 (λ k. get_or (in_rank t.rank t.n t.c1) k 0 + get_or (in_rank t.rank t.n t.c2) k 0) t.n k 0 l;
         resources = small_resources;
         ranks = (t.period, g.ranks);
         weights = weights-le t.period t.a t.resource t.n g.rows.1 good_rows;

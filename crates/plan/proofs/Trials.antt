@@ -24,7 +24,7 @@ use Rattle.plan.specs.Tasks.{of_resource}
 use Rattle.plan.specs.Trial.{failed, planned, plan_by, serves, homes, sections, stages, trial_of}
 use Rattle.plan.specs.Planning.{is_planned, first_trial, last_trial, failures, planning_of}
 use Rattle.plan.specs.Good.{GoodTasks}
-use Rattle.lists.proofs.Tab.{get_d_filled}
+use Rattle.lists.proofs.Tab.{get_or-filled}
 
 module _ (t : Tasks) (g : GoodTasks t) where
   -- where no resource has a processor above 16, the columns of sections are good
@@ -33,7 +33,7 @@ module _ (t : Tasks) (g : GoodTasks t) where
       record {
         few = g.few.1;
         terms = λ k l. record { period = g.periods k l; short = omega (arith, g.sum k l) };
-        served = λ k l. omega (arith, get_d_filled 64 0 (λ k. get_or processors (get_or t.resource k 0) 0) t.n k 0 l, h (get_or t.resource k 0));
+        served = λ k l. omega (arith, get_or-filled 64 0 (λ k. get_or processors (get_or t.resource k 0) 0) t.n k 0 l, h (get_or t.resource k 0));
       }
 
   -- where each section bound is at most the period, the columns of stages are good

@@ -49,7 +49,7 @@ pub struct Plan {
 }
 
 // That a trial succeeds, or the row, the mark and the value that it fails with.
-#[derive(Drop)]
+#[derive(Clone, Copy)]
 pub enum Outcome {
     Planned,
     Failed(u32, u32, u32),

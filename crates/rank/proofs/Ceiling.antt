@@ -10,7 +10,7 @@ use native.Mathlib.Numerals.{add-one}
 use native.Mathlib.Nat.{min-le_left, min-le_right, min-eq_left, min-eq_right}
 use lib.ListN.{get_or, set}
 use borrow.Author.Tests.{lt-ltb, le-ltb, eq-eqb, ne_eqb}
-use Rattle.lists.proofs.Tab.{get_d_tab, tab_same, tab-set}
+use Rattle.lists.proofs.Tab.{get_or-tab, tab_same, tab-set}
 use Rattle.rank.specs.Ceiling.{uses, ceiling_of, ceilings_of}
 
 module _ (resources ranks : List ℕ) (r : ℕ) where
@@ -80,7 +80,7 @@ module _ (resources ranks ceilings : List ℕ) (k : ℕ) (are : ceilings ≡ cei
   -- a place of the ceilings of k rows
   ceiling_at : (r : ℕ) → r < 17 → get_or ceilings r 0 ≡ ceiling_of resources ranks k r
   unfolding ceilings_of
-  ceiling_at r l = ap (λ (x : List ℕ). get_or x r 0) are ∙ get_d_tab 17 (ceiling_of resources ranks k) r 0 l
+  ceiling_at r l = ap (λ (x : List ℕ). get_or x r 0) are ∙ get_or-tab 17 (ceiling_of resources ranks k) r 0 l
 
   -- a row that names no resource, or is ranked no better than the ceiling of the one it names, leaves the ceilings as they were
   pub ceilings_kept : (0 < get_or resources k 0 → get_or resources k 0 < 17 → get_or ceilings (get_or resources k 0) 0 ≤ get_or ranks k 0) → ceilings ≡ ceilings_of resources ranks (k + 1)

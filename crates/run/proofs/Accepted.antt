@@ -74,4 +74,4 @@ module _ (r : Reading) (xs : List Arrival) (f w size : ℕ) where
 -- and the front of its trace has the bytes of the window
 pub trace_accepted : (r : Reading) (xs : List Arrival) (f w : ℕ) (trace : List ℕ) → Accepted r xs f w (length trace) → trace_after r xs f w trace ≡ log (chart_in r.table) xs f w ++ drop (r.table.m * w) trace
 unfolding trace_after shown_of number_of chart_of
-trace_accepted r xs f w trace a = rw (a.read, a.planned, a.called, le-ltb _ _ a.in-time)
+trace_accepted r xs f w trace a = rw (a.read, a.planned, a.called, le-ltb _ _ a.in_time)

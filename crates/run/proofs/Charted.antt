@@ -7,7 +7,7 @@ use borrow.Author.Tests.{leb-true, leb-false}
 use mathlib.Core.Bool.{Bool, true, false}
 use lib.Dec.{leb}
 use lib.ListN.{get_or, length}
-use Rattle.lists.proofs.Tab.{get_d_filled}
+use Rattle.lists.proofs.Tab.{get_or-filled}
 use Rattle.rank.proofs.Order.{ranks-lt}
 use Rattle.table.specs.declared.Table.{Table}
 use Rattle.table.specs.Good.{GoodTable}
@@ -55,7 +55,7 @@ module _ (t : Table) (good : GoodTable t) (found : (planned_of t).outcome ≡ Pl
   -- no section is on a processor above 16
   lock_le : (i : ℕ) → i < t.n → get_or (locks_of t (planned_of t).plan) i 0 ≤ 16
   lock_le i h =
-      let e = get_d_filled 64 0 (λ k. get_or (planned_of t).plan.serves (get_or t.resource k 0) 0) t.n i 0 h in
+      let e = get_or-filled 64 0 (λ k. get_or (planned_of t).plan.serves (get_or t.resource k 0) 0) t.n i 0 h in
       omega (arith, e, plan_serves t good found (get_or t.resource i 0))
 
   -- so the chart is good

@@ -5,7 +5,7 @@ use mathlib.Core.Bool.{true}
 use native.Mathlib.Omega.{arith}
 use borrow.Author.Tests.{lt-ltb, eq-eqb}
 use lib.ListN.{get_or}
-use Rattle.lists.proofs.Tab.{get_d_filled}
+use Rattle.lists.proofs.Tab.{get_or-filled}
 use Rattle.rank.specs.Ceiling.{uses}
 use Rattle.table.specs.declared.Table.{Table}
 use Rattle.table.specs.Good.{GoodTable}
@@ -29,7 +29,7 @@ module _ (t : Table) (g : GoodTable t) (e : (planned_of t).outcome ≡ Planned) 
       let r : ℕ = get_or t.resource i 0 in
       let named : 1 ≤ r = names_resource t g i l h in
       let used : uses r r ≡ true = rw (lt-ltb 0 r named, eq-eqb r r refl) in
-      rw (get_d_filled 64 0 (λ k. get_or p.serves (get_or t.resource k 0) 0) t.n i 0 l) ((plan_served t g e r named (g.tasks i l).resource).on (i, l, used))
+      rw (get_or-filled 64 0 (λ k. get_or p.serves (get_or t.resource k 0) 0) t.n i 0 l) ((plan_served t g e r named (g.tasks i l).resource).on (i, l, used))
 
   -- so every part that can run has one
   pub planned_seated : Seated (chart_of t p) t.a

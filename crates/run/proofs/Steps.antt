@@ -10,7 +10,7 @@ use lib.Dec.{ltb}
 use lib.ListN.{length, get_or, get_or-replicate}
 use lib.Seq.{sets}
 use Rattle.lists.specs.Tab.{joined, blank}
-use Rattle.lists.proofs.Tab.{get_d_blank, length-blank}
+use Rattle.lists.proofs.Tab.{get_or-blank, length-blank}
 use Rattle.lists.proofs.Sets.{sets_then}
 use Rattle.lists.proofs.Joined.{joined-append, joined_same}
 use Rattle.chain.specs.declared.Job.{Job}
@@ -46,7 +46,7 @@ module _ (c : Chart) (xs : List Arrival) where
       record { whole = length-blank 576 0; column = length-blank 64 never; jobs = jobs_blank; dues_are = dues; noted = refl; coming = come; clear = λ e h. absurd (omega arith) }
     where
       none : (i : ℕ) → job_at (jobs_in (blank 576 0)) i ≡ no_job
-      none i = ap (λ (js : List Job). job_at js i) jobs_blank ∙ get_d_blank 64 no_job i
+      none i = ap (λ (js : List Job). job_at js i) jobs_blank ∙ get_or-blank 64 no_job i
 
       dues : Dues c.n c.bounds (jobs_in (blank 576 0)) (blank 64 never)
       dues i l = none_due i (omega arith) ∙ sym (ap (due_of c.bounds i) (none i))
@@ -73,7 +73,7 @@ module _ {c : Chart} {xs : List Arrival} {t : ℕ} {flat dues worst : List ℕ} 
         column = st.column;
         good = subst (GoodJobs c.n t) (sym st.jobs) (good_at c (brings xs) t h);
         past = λ i a b. sym (jobs_at_lem flat i b) ∙ ap (λ (js : List Job). job_at js i) st.jobs ∙ past_at c (brings xs) t i a b;
-        dues_are = st.dues-are;
+        dues_are = st.dues_are;
       }
 
   -- the jobs are good

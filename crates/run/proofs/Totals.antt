@@ -47,11 +47,11 @@ module _ (bytes : List ℕ) (xs : List Arrival) where
 
     -- the arrivals are,
     heard : GoodArrivals table.n table.period table.c1 table.a table.c2 xs
-    heard = arrivals_good table.n table.period table.c1 table.a table.c2 xs good.rows.1 accepted.heard-none
+    heard = arrivals_good table.n table.period table.c1 table.a table.c2 xs good.rows.1 accepted.heard_none
 
     -- and no release comes too early
     in_time : (t : ℕ) → t < f + w → is_late (chart_in table) xs t ≡ false
-    in_time t l = first_no (f + w) (is_late (chart_in table) xs) t (omega (arith, accepted.in-time))
+    in_time t l = first_no (f + w) (is_late (chart_in table) xs) t (omega (arith, accepted.in_time))
 
     -- "run plus owed equals all lengths brought by arrivals before f + w"
     pub run_plus_owed : (run_answer read xs f w size).run + (run_answer read xs f w size).owed ≡ brought xs (f + w)

@@ -8,7 +8,7 @@ use native.Mathlib.Nat.{zero-add}
 use borrow.Author.Tests.{eq-eqb, ne_eqb}
 use lib.ListN.{get_or}
 use lib.Dec.{eqb}
-use Rattle.lists.proofs.Tab.{get_d_blank}
+use Rattle.lists.proofs.Tab.{get_or-blank}
 use Rattle.chain.specs.declared.Place.{Place}
 use Rattle.chain.specs.declared.Place.TheVariants.{Idle, Waiting, Running}
 use Rattle.chain.specs.declared.Job.{Job}
@@ -84,7 +84,7 @@ module _ (c : Chart) (js : List Job) where
           total_one c.m q (λ p. unit p i) m
           (λ p k ne. unit_none p i (λ h.
           let r = (picked_runs c js (suc p) i h).1 in
-          ne (omega (arith, at, ap (home c.homes i) (ap part_of (sym e ∙ r.place_is)), r.home-is))))
+          ne (omega (arith, at, ap (home c.homes i) (ap part_of (sym e ∙ r.place_is)), r.home_is))))
 
       gets : (b : Bool) (j l : ℕ) → (cond b (unit_of c.bounds i t x j l) x).ran ≡ x.ran + cond b 1 0
       gets true j l = ran_unit c.bounds i t x j l
@@ -117,7 +117,7 @@ module _ (c : Chart) (periods c1s secs c2s : List ℕ) (xs : List Arrival) (good
   -- so it is of all ticks before e
   units_busy : (e : ℕ) → (tally_of c.n (jobs_at c (brings xs) e)).run ≡ total e (λ t. busy (bytes_at c (brings xs) t))
   unfolding tally_of total jobs_at bytes_at
-  units_busy zero = total-zero c.n _ (λ i h. ap (λ (x : Job). x.ran) (get_d_blank 64 no_job i))
+  units_busy zero = total-zero c.n _ (λ i h. ap (λ (x : Job). x.ran) (get_or-blank 64 no_job i))
   units_busy (suc e) =
       let js : List Job = released_at c (brings xs) e in
       total_ext c.n _ _ (λ i h. ap (λ (x : Job). x.ran) (served_at c (brings xs) e i h))

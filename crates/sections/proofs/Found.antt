@@ -10,7 +10,7 @@ use borrow.Author.Tests.{lt-ltb, le-ltb}
 use lib.ListN.{get_or, set}
 use Rattle.lists.specs.Tab.{filled}
 use Rattle.lists.proofs.Tests.{clash}
-use Rattle.lists.proofs.Tab.{filled_next, get_d_filled}
+use Rattle.lists.proofs.Tab.{filled_next, get_or-filled}
 use Rattle.lists.proofs.First.{first_no, first_is, first_none}
 use Rattle.bounds.specs.Bound.{bound_of, LeastBound, is_missing, time_of}
 use Rattle.bounds.specs.Terms.{terms_on, lane}
@@ -65,7 +65,7 @@ module _ (npp : Bool) (periods sections tops homes : List ℕ) (n : ℕ) where
       × (get_or (sections_of npp periods sections tops homes n).bound k 0 ≤ get_or periods k 0)
   unfolding sections_of first_missing section_bound
   section_least k l =
-      rw (get_d_filled 64 0 (λ j. time_of (section_bound npp periods sections tops homes n j)) (first_missing npp periods sections tops homes n) k 0 l)
+      rw (get_or-filled 64 0 (λ j. time_of (section_bound npp periods sections tops homes n j)) (first_missing npp periods sections tops homes n) k 0 l)
       (go (section_bound npp periods sections tops homes n k) refl (first_no n (λ j. is_missing (section_bound npp periods sections tops homes n j)) k l))
     where
       go : (b : Bound) → section_bound npp periods sections tops homes n k ≡ b → is_missing b ≡ false →

@@ -11,7 +11,7 @@ use denote.Ref.{Bor}
 use denote.Triple.Entry.{Args}
 use lib.ListN.{length, get_or, take, drop}
 use Rattle.lists.specs.Tab.{tab, blank}
-use Rattle.lists.proofs.Tab.{get_d_blank}
+use Rattle.lists.proofs.Tab.{get_or-blank}
 use Rattle.table.specs.Table.{reading_of}
 use Rattle.table.proofs.Good.{table_good}
 use Rattle.table.proofs.Given.{PCP, Given, written, hex}
@@ -246,7 +246,7 @@ module _ (f : Runner) (meets : Runs f) where
 
   -- "a run that writes nothing"
   pub no_writes_nothing : WritesNothing f → ⊥
-  no_writes_nothing wrong = omega (arith, second_tick, ap (λ (x : List ℕ). get_or x 2 0) (wrong _ _ no_refusal), get_d_blank {A = ℕ} 6 0 2)
+  no_writes_nothing wrong = omega (arith, second_tick, ap (λ (x : List ℕ). get_or x 2 0) (wrong _ _ no_refusal), get_or-blank {A = ℕ} 6 0 2)
 
   -- "one that steps the first tick and leaves the rest idle"
   pub no_first_tick_only : FirstTickOnly f → ⊥

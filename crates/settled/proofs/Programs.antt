@@ -6,7 +6,7 @@ use native.Mathlib.Omega.{arith}
 use lib.ListN.{length, get_or, take, length-take}
 use lib.Seq.{get_or-append-add}
 use Rattle.lists.specs.Tab.{blank}
-use Rattle.lists.proofs.Tab.{get_d_blank}
+use Rattle.lists.proofs.Tab.{get_or-blank}
 use Rattle.table.specs.Table.{reading_of}
 use Rattle.run.specs.Answer.{run_answer, trace_after}
 use Rattle.kieferntuch.specs.Answer.{answer, plan_answer}
@@ -73,7 +73,7 @@ rest_idle m k size bytes h =
     let e : k ≡ length first + (k - length first) = omega (arith, length-take m bytes) in
     ap (λ (j : ℕ). get_or (first ++ blank size 0) j 0) e
     ∙ get_or-append-add first (blank size 0) (k - length first) 0
-    ∙ get_d_blank size 0 (k - length first)
+    ∙ get_or-blank size 0 (k - length first)
 
 is_first_tick : FirstTickOnly first_tick
 unfolding first_tick

@@ -17,7 +17,7 @@ use denote.Triple.Clauses.{Ended}
 use Rattle.lists.specs.Tab.{tab, joined, blank, filled}
 use Rattle.lists.specs.First.{first}
 use Rattle.lists.specs.Count.{count}
-use Rattle.lists.proofs.Tab.{length-blank, get_d_filled, get_d_rest}
+use Rattle.lists.proofs.Tab.{length-blank, get_or-filled, get_or-rest}
 use Rattle.rank.specs.Rank.{rank_of, ranks_of}
 use Rattle.rank.specs.Order.{in_rank, in_rows, numbers_to}
 use Rattle.table.specs.declared.Table.{Table}
@@ -153,7 +153,7 @@ one_number_too_many : (κs : _) (n : ℕ) → n < 64 → RuledOut numbers-to.end
 unfolding numbers_to
 one_number_too_many κs n h =
     let number : ℕ → ℕ = λ i. i + 1 in
-    (omega arith, λ p. omega (arith, ap (λ (r : List ℕ). get_or r n 0) p, get_d_filled 64 0 number (n + 1) n 0 (omega arith), get_d_rest 64 0 number n n 0 (omega arith) h))
+    (omega arith, λ p. omega (arith, ap (λ (r : List ℕ). get_or r n 0) p, get_or-filled 64 0 number (n + 1) n 0 (omega arith), get_or-rest 64 0 number n n 0 (omega arith) h))
 
 -- ---- bounds
 

@@ -22,7 +22,7 @@ pub record TaskRead (bytes : List ℕ) (at processor d1 section d2 : ℕ) : Type
   pub d1_bits : bits_value bytes (at + 5) 20 ≡ d1
   pub section_bits : bits_value bytes (at + 25) 20 ≡ section
   pub d2_bits : bits_value bytes (at + 45) 20 ≡ d2
-  pub spare_bits_lem : bits_value bytes (at + 65) 7 ≡ 0
+  pub spare_bits : bits_value bytes (at + 65) 7 ≡ 0
 
 -- the bytes say a plan's numbers
 pub record PlanRead (bytes : List ℕ) (n m s : ℕ) (serves processors d1s sections d2s : List ℕ) : Type 0 where
@@ -74,7 +74,7 @@ task_read p d1 s d2 small-p small-d1 small-s small-d2 =
       d1_bits = read_field (field 5 p ∷ []) (field 20 d1) (field 20 s ∷ field 20 d2 ∷ field 7 0 ∷ []) 9 refl b;
       section_bits = read_field (field 5 p ∷ field 20 d1 ∷ []) (field 20 s) (field 20 d2 ∷ field 7 0 ∷ []) 9 refl c;
       d2_bits = read_field (field 5 p ∷ field 20 d1 ∷ field 20 s ∷ []) (field 20 d2) (field 7 0 ∷ []) 9 refl d;
-      spare_bits_lem = read_field (field 5 p ∷ field 20 d1 ∷ field 20 s ∷ field 20 d2 ∷ []) (field 7 0) [] 9 refl z;
+      spare_bits = read_field (field 5 p ∷ field 20 d1 ∷ field 20 s ∷ field 20 d2 ∷ []) (field 7 0) [] 9 refl z;
     }
 
 -- the same bits at another place say the same numbers
@@ -82,11 +82,11 @@ moved : {bytes u : List ℕ} {processor d1 section d2 : ℕ} (at : ℕ) → ((pl
     → TaskRead u 0 processor d1 section d2 → TaskRead bytes at processor d1 section d2
 moved {bytes} at same t =
     record {
-      processor_bits = ap (λ (i : ℕ). bits_value bytes i 5) (sym (add-zero at)) ∙ same 0 5 (omega arith) ∙ t.processor-bits;
-      d1_bits = same 5 20 (omega arith) ∙ t.d1-bits;
-      section_bits = same 25 20 (omega arith) ∙ t.section-bits;
-      d2_bits = same 45 20 (omega arith) ∙ t.d2-bits;
-      spare_bits_lem = same 65 7 (omega arith) ∙ t.spare-bits;
+      processor_bits = ap (λ (i : ℕ). bits_value bytes i 5) (sym (add-zero at)) ∙ same 0 5 (omega arith) ∙ t.processor_bits;
+      d1_bits = same 5 20 (omega arith) ∙ t.d1_bits;
+      section_bits = same 25 20 (omega arith) ∙ t.section_bits;
+      d2_bits = same 45 20 (omega arith) ∙ t.d2_bits;
+      spare_bits = same 65 7 (omega arith) ∙ t.spare_bits;
     }
 
 module _ (n m s : ℕ) (serves processors d1s sections d2s : List ℕ) where

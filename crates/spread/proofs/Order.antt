@@ -9,12 +9,12 @@ use native.Mathlib.Decide.{dec_lt}
 use lib.ListN.{get_or}
 use lib.Dec.{ltb}
 use borrow.Author.Tests.{lt-ltb, ltb-true}
-use Rattle.lists.proofs.Tab.{get_d_filled}
+use Rattle.lists.proofs.Tab.{get_or-filled}
 use Rattle.lists.proofs.Count.{count-le, count-lt}
 use Rattle.rank.specs.Rank.{better, rank_of, ranks_of}
 use Rattle.rank.specs.Order.{row_of, numbers_to}
 use Rattle.rank.proofs.Order.{better-le, better_false, lower_rank}
-use Rattle.rank.proofs.InRank.{rank_at, at_lt, row_of_rank, rank_of_row, get_d_in_rank, numbers}
+use Rattle.rank.proofs.InRank.{rank_at, at_lt, row_of_rank, rank_of_row, get_or-in_rank, numbers}
 use Rattle.spread.specs.Weight.{GoodWeights, used_of, lacks_of, heaviest_of, Before}
 
 -- the resource at place j, less one: the row of rank j among what the resources lack
@@ -25,7 +25,7 @@ module _ (weights : List ℕ) where
   -- what resource r + 1 lacks
   lack : (r : ℕ) → r < 16 → get_or (lacks_of weights) r 0 ≡ 64000000 - get_or weights (r + 1) 0
   unfolding lacks_of
-  lack r l = get_d_filled 64 0 (λ r. 64000000 - get_or weights (r + 1) 0) 16 r 0 l
+  lack r l = get_or-filled 64 0 (λ r. 64000000 - get_or weights (r + 1) 0) 16 r 0 l
 
   -- it is one of 16
   row_lt : (j : ℕ) → j < 16 → row weights j < 16
@@ -43,7 +43,7 @@ module _ (weights : List ℕ) where
   place : (j : ℕ) → j < 16 → get_or (heaviest_of weights) j 0 ≡ row weights j + 1
   unfolding heaviest_of row
   place j l =
-      get_d_in_rank (ranks_of (lacks_of weights) 16) 16 (numbers_to 16) j l
+      get_or-in_rank (ranks_of (lacks_of weights) 16) 16 (numbers_to 16) j l
       ∙ numbers 16 (row weights j) (row_lt j l)
 
   -- each place holds a resource

@@ -12,7 +12,7 @@ use lib.Seq.{get_or-set_same, get_or-set_other}
 use lib.Dec.{ltb}
 use borrow.Author.Tests.{lt-ltb, le-ltb}
 use Rattle.lists.specs.Tab.{blank}
-use Rattle.lists.proofs.Tab.{get_d_blank}
+use Rattle.lists.proofs.Tab.{get_or-blank}
 use Rattle.lists.proofs.Sets.{set-within}
 use Rattle.spread.specs.Weight.{GoodWeights, used_of, heaviest_of}
 use Rattle.spread.specs.Spread.{lightest_of, Lightest, loaded, loads_of, serves_of}
@@ -76,7 +76,7 @@ module _ (weights order : List ℕ) (s : ℕ) where
   -- no processor is loaded with more than j resources can weigh
   pub loads_le : (j : ℕ) → ((i : ℕ) → i < j → get_or weights (get_or order i 0) 0 ≤ 64000000) → (q : ℕ) → get_or (loads_of weights order s j) q 0 ≤ j * 64000000
   unfolding loads_of
-  loads_le zero small q = omega (arith, get_d_blank {A = ℕ} 17 0 q)
+  loads_le zero small q = omega (arith, get_or-blank {A = ℕ} 17 0 q)
   loads_le (suc j) small q =
       let p : ℕ = lightest_of (loads_of weights order s j) s in
       let before : (q : ℕ) → get_or (loads_of weights order s j) q 0 ≤ j * 64000000 = loads_le j (λ i l. small i (omega arith)) in
@@ -91,7 +91,7 @@ module _ (weights order : List ℕ) (s : ℕ) where
   -- who has not been given to a processor has none
   serves_none : (j r : ℕ) → ((i : ℕ) → i < j → get_or order i 0 ≡ r → ⊥) → get_or (serves_of weights order s j) r 0 ≡ 0
   unfolding serves_of
-  serves_none zero r other = get_d_blank {A = ℕ} 17 0 r
+  serves_none zero r other = get_or-blank {A = ℕ} 17 0 r
   serves_none (suc j) r other =
       get_or-set_other (serves_of weights order s j) (get_or order j 0) r (lightest_of (loads_of weights order s j) s) 0 (λ e. other j (omega arith) (sym e))
       ∙ serves_none j r (λ i l. other i (omega arith))
@@ -99,7 +99,7 @@ module _ (weights order : List ℕ) (s : ℕ) where
   -- no processor but 1 to s serves
   pub serves-le : (j : ℕ) → (0 < j → 1 ≤ s) → (r : ℕ) → get_or (serves_of weights order s j) r 0 ≤ s
   unfolding serves_of
-  serves-le zero some r = omega (arith, get_d_blank {A = ℕ} 17 0 r)
+  serves-le zero some r = omega (arith, get_or-blank {A = ℕ} 17 0 r)
   serves-le (suc j) some r =
       let one : 1 ≤ s = some (omega arith) in
       set-within (serves_of weights order s j) (λ r. s) (get_or order j 0) _ (serves-le j (λ l. one)) (lightest_is (loads_of weights order s j) s one).last r

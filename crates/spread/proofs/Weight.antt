@@ -12,7 +12,7 @@ use mir.Syntax.{w32}
 use mir.Val.{Fits}
 use lib.ListN.{get_or}
 use lib.Dec.{ltb}
-use Rattle.lists.proofs.Tab.{get_d_tab}
+use Rattle.lists.proofs.Tab.{get_or-tab}
 use Rattle.lists.proofs.Count.{count-le, count_all}
 use Rattle.rank.specs.Ceiling.{uses}
 use Rattle.bounds.specs.Demand.{ceil}
@@ -50,7 +50,7 @@ module _ (periods sections resources : List ℕ) where
   -- a place of the column of weights
   pub weights_at : (n r : ℕ) → r < 17 → get_or (weights_of periods sections resources n) r 0 ≡ weight_of periods sections resources n r
   unfolding weights_of
-  weights_at n r l = get_d_tab 17 (weight_of periods sections resources n) r 0 l
+  weights_at n r l = get_or-tab 17 (weight_of periods sections resources n) r 0 l
 
   -- no resource weighs more than 64 users can
   pub weights-le : (n : ℕ) → n ≤ 64 → GoodRows periods sections n → GoodWeights (weights_of periods sections resources n)

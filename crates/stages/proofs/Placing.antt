@@ -13,7 +13,7 @@ use lib.ListN.{length, get_or, set, length-set}
 use lib.Seq.{get_or-set_same, get_or-set_other}
 use Rattle.lists.specs.Tab.{blank, filled}
 use Rattle.lists.proofs.Tests.{clash, not_both}
-use Rattle.lists.proofs.Tab.{filled_none, filled_next, get_d_filled, length-blank}
+use Rattle.lists.proofs.Tab.{filled_none, filled_next, get_or-filled, length-blank}
 use Rattle.lists.proofs.First.{first_no, first-le, first_is, first_none}
 use Rattle.bounds.specs.Demand.{GoodTerm}
 use Rattle.bounds.specs.Terms.{term_at, terms_on, lane}
@@ -189,7 +189,7 @@ module _ (periods c1s c2s works sections : List ℕ) (s m : ℕ) where
       (get_or (stages_of periods c1s c2s works sections s m n).d2 k 0)
   unfolding stages_of stages_to first_nowhere
   stages_placed n k few l =
-      rw (placed_at e k l small, get_d_filled 64 0 (λ j. d1_of (place_of periods c1s c2s works sections s m j)) e k 0 l, get_d_filled 64 0 (λ j. d2_of (place_of periods c1s c2s works sections s m j)) e k 0 l)
+      rw (placed_at e k l small, get_or-filled 64 0 (λ j. d1_of (place_of periods c1s c2s works sections s m j)) e k 0 l, get_or-filled 64 0 (λ j. d2_of (place_of periods c1s c2s works sections s m j)) e k 0 l)
       (go (place_of periods c1s c2s works sections s m k) refl (first_no n (λ j. is_nowhere (place_of periods c1s c2s works sections s m j)) k l))
     where
       e : ℕ

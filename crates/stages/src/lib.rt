@@ -11,14 +11,14 @@ ghost use Rattle.stages.specs.Good.{GoodStages};
 use bounds::Bound;
 
 // The bounds D1 and D2 of a task on a processor, or the value that keeps it from fitting there.
-#[derive(Drop)]
+#[derive(Clone, Copy)]
 enum Fit {
     Fits(u32, u32),
     Not(u32),
 }
 
 // A task's processor, D1 and D2, or the smallest of the values that keep it from fitting any.
-#[derive(Drop)]
+#[derive(Clone, Copy)]
 enum Place {
     On(u32, u32, u32),
     Nowhere(u32),

@@ -11,7 +11,7 @@ use lib.Dec.{eqb}
 use lib.ListN.{get_or}
 use Rattle.lists.specs.Tab.{filled}
 use Rattle.lists.proofs.Tests.{both}
-use Rattle.lists.proofs.Tab.{tab_same, get_d_filled, filled_same}
+use Rattle.lists.proofs.Tab.{tab_same, get_or-filled, filled_same}
 use Rattle.lists.proofs.First.{first_none}
 use Rattle.chain.specs.declared.Place.TheVariants.{Running}
 use Rattle.chain.specs.declared.Job.{Job}
@@ -56,7 +56,7 @@ module _ (c : Chart) (ar : Arrivals) (t k : ℕ) (js : List Job) where
   -- row i among them
   pushes_at : (j i : ℕ) → i < c.n → job_at (pushes j) i ≡ pushed_row j i
   unfolding push_all
-  pushes_at j i l = get_d_filled 64 no_job (pushed_row j) c.n i no_job l
+  pushes_at j i l = get_or-filled 64 no_job (pushed_row j) c.n i no_job l
 
   -- no unit has run yet
   pushes_none : pushes 0 ≡ there
@@ -93,7 +93,7 @@ module _ (c : Chart) (ar : Arrivals) (t k : ℕ) (js : List Job) where
         let x = job_at there i in
         let (on, z) = both (section_on c.homes q i x.place) (eqb x.begun 0) free in
         let none = eqb-true x.begun 0 z in
-        let p : get_or rows (home c.homes i w.part) 0 ≡ suc i = rw w.home-is e in
+        let p : get_or rows (home c.homes i w.part) 0 ≡ suc i = rw w.home_is e in
         let d = pushes_at (suc j) i b ∙ push_runs rows c.homes t (suc j) i x w.part w.left w.place_is p in
         let place = ap (λ (y : Job). y.place) d ∙ place_pushed t (suc j) x w.part w.left w.place_is in
         let section = ap (section_on c.homes q i) (sym w.place_is) ∙ on in
@@ -133,7 +133,7 @@ module _ (c : Chart) (ar : Arrivals) (t k : ℕ) (js : List Job) where
     unfolding releases push_all
     releases_same j h =
         filled_same 64 no_job c.n _ _
-        (λ i l. rw (pushes_at (suc j) i l, calm.none-comes i (t + suc j) l (omega arith) (omega arith)) (released_before c.bounds i (t + suc j) (pushed_row (suc j) i) (due_behind j h i l)))
+        (λ i l. rw (pushes_at (suc j) i l, calm.none_comes i (t + suc j) l (omega arith) (omega arith)) (released_before c.bounds i (t + suc j) (pushed_row (suc j) i) (due_behind j h i l)))
 
     -- and each tick is a unit of the picked rows
     step_same : (j : ℕ) → j ≤ k → there_after c ar t j js ≡ pushes j → steps_from c ar t (suc j) js ≡ filled 64 no_job c.n (λ i. serve rows c.bounds c.homes (t + j) i (pushed_row j i))
@@ -165,7 +165,7 @@ module _ (c : Chart) (ar : Arrivals) (t k : ℕ) (js : List Job) where
     stretch_timely (suc j) h l =
         rw (step_pushes j (omega arith) (there_same j (omega arith)))
         (first_none c.n _
-        (λ i b. rw (pushes_at (suc j) i b, calm.none-comes i (t + suc j) b (omega arith) (omega arith)) (late_before c.bounds i (t + suc j) (pushed_row (suc j) i) (due_behind j (omega arith) i b))))
+        (λ i b. rw (pushes_at (suc j) i b, calm.none_comes i (t + suc j) b (omega arith) (omega arith)) (late_before c.bounds i (t + suc j) (pushed_row (suc j) i) (due_behind j (omega arith) i b))))
 
     -- no response is noted before the last tick
     noted_same : (j : ℕ) → j < k → (q : ℕ) (worst : List ℕ) → noted c.bounds (t + j) (pushes j) (get_or rows q 0) worst ≡ worst
@@ -176,7 +176,7 @@ module _ (c : Chart) (ar : Arrivals) (t k : ℕ) (js : List Job) where
         go zero e = refl
         go (suc i) e =
             let (l, w) = picked_runs c there q i e in
-            let p : get_or rows (home c.homes i w.part) 0 ≡ suc i = rw w.home-is e in
+            let p : get_or rows (home c.homes i w.part) 0 ≡ suc i = rw w.home_is e in
             rw (pushes_at j i l)
             (not_noted rows c.homes t j i (job_at there i) c.bounds (t + j) w.part w.left w.place_is p
             (omega (arith, (goes (omega arith) i w.part w.left w.place_is p).0))

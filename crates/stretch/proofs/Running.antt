@@ -120,7 +120,7 @@ module _ (picked homes : List ℕ) (t k : ℕ) (was : List ℕ) (picks : Picks p
 
   -- a row is picked by the processor of its part only,
   home_of : (q i : ℕ) → q < 17 → get_or picked q 0 ≡ suc i → home homes i (part_of (job_in was i).place) ≡ q
-  home_of q i l e = ap (λ (x : Place). home homes i (part_of x)) (place_in q i l e) ∙ (picks q i l e).1.home-is
+  home_of q i l e = ap (λ (x : Place). home homes i (part_of x)) (place_in q i l e) ∙ (picks q i l e).1.home_is
 
   -- so it is picked once
   fresh : (q i : ℕ) → q < 17 → get_or picked q 0 ≡ suc i → (p : ℕ) → p < q → get_or picked p 0 ≡ suc i → ⊥
@@ -167,7 +167,7 @@ module _ {picked bounds homes : List ℕ} {t k : ℕ} {was old : List ℕ} {q : 
           ∙ ap (λ (js : List Job). job_at js i) f
           ∙ get_or-set_same (jobs_in flat) i _ no_job (omega (arith, length-jobs flat, p.0))
           ∙ ap (λ (x : Job). serve picked bounds homes (t + k) i (push t k x)) same_here
-          ∙ ap (serve picked bounds homes (t + k) i) (push_picked picked bounds homes t k q i _ _ (job_in was i) (place_in picked homes t k was picks q i l e) p.1.home-is e)
+          ∙ ap (serve picked bounds homes (t + k) i) (push_picked picked bounds homes t k q i _ _ (job_in was i) (place_in picked homes t k was picks q i l e) p.1.home_is e)
 
       -- and its next release is known
       here : (job_in next i ≡ after picked bounds homes t k i (job_in was i)) × (get_or due' i 0 ≡ due_of bounds i (after picked bounds homes t k i (job_in was i)))

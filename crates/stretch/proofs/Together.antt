@@ -8,7 +8,7 @@ use native.Mathlib.Decide.{dec_lt}
 use native.Mathlib.Numerals.{add-one}
 use lib.ListN.{get_or, length}
 use Rattle.lists.specs.Tab.{tab, filled}
-use Rattle.lists.proofs.Tab.{length-tab, get_d_tab, tab_filled, get_d_filled, get_d_rest}
+use Rattle.lists.proofs.Tab.{length-tab, get_or-tab, tab_filled, get_or-filled, get_or-rest}
 use Rattle.chain.specs.declared.Place.TheVariants.{Running}
 use Rattle.chain.specs.declared.Job.{Job}
 use Rattle.chain.specs.Job.{no_job, job_at}
@@ -74,17 +74,17 @@ module _ (c : Chart) (xs : List Arrival) (t e : ℕ) (js : List Job) (flat dues 
 
   -- the numbers hold them,
   job_there : (i : ℕ) → i < 64 → job_in flat i ≡ job_at there i
-  job_there i h = sym (jobs_at_lem flat i h) ∙ ap (λ ks. job_at ks i) r.jobs-are
+  job_there i h = sym (jobs_at_lem flat i h) ∙ ap (λ ks. job_at ks i) r.jobs_are
 
   -- and the rows are those picked of them
   rows_there : rows ≡ picked c there
   unfolding picked
-  rows_there = r.rows_are ∙ ap (λ ks. tab 17 (pick c.homes c.rank c.top c.n ks)) r.jobs-are
+  rows_there = r.rows_are ∙ ap (λ ks. tab 17 (pick c.homes c.rank c.top c.n ks)) r.jobs_are
 
   -- a row past n is idle
   past : (i : ℕ) → c.n ≤ i → i < 64 → job_in flat i ≡ no_job
   unfolding releases
-  past i a b = job_there i b ∙ get_d_rest 64 no_job (λ k. released c.bounds k t (job_at js k) (brings xs k t)) c.n i no_job a b
+  past i a b = job_there i b ∙ get_or-rest 64 no_job (λ k. released c.bounds k t (job_at js k) (brings xs k t)) c.n i no_job a b
 
   -- a picked row runs a part on its processor
   row_runs : (q i : ℕ) → get_or rows q 0 ≡ suc i → (i < c.n) × Runs c.homes (jobs_in flat) q i
@@ -104,7 +104,7 @@ module _ (c : Chart) (xs : List Arrival) (t e : ℕ) (js : List Job) (flat dues 
     -- and a row whose part does can run k units
     good_there : (i : ℕ) → i < c.n → Lasts k (job_in flat i).place → Ready t k (job_in flat i)
     good_there i h l =
-        let g = good_releases c.n c.bounds (brings xs) t js r.jobs-good (omega (arith, s.short)) i h in
+        let g = good_releases c.n c.bounds (brings xs) t js r.jobs_good (omega (arith, s.short)) i h in
         let d = job_there i (omega (arith, few)) in
         record { good = rw d g.0; lasts = l; ended = rw d (omega (arith, g.1, s.short)); ran = rw d g.2 }
 
@@ -119,7 +119,7 @@ module _ (c : Chart) (xs : List Arrival) (t e : ℕ) (js : List Job) (flat dues 
             part = w.part;
             left = w.left;
             place_is = w.place_is;
-            home_is = w.home-is;
+            home_is = w.home_is;
             ready = rw d (good_there i l (λ j m e. lasts i q j m h p e));
           },
         )
@@ -134,7 +134,7 @@ module _ (c : Chart) (xs : List Arrival) (t e : ℕ) (js : List Job) (flat dues 
     pub after : Coming c.n xs next (t + suc k)
     after =
         dite (dec_lt 0 k)
-        (λ b. coming_on c.n xs next (suc t) (t + suc k) r.coming (omega arith) (s.none-comes b))
+        (λ b. coming_on c.n xs next (suc t) (t + suc k) r.coming (omega arith) (s.none_comes b))
         (λ b.
         let z : t + suc k ≡ suc t = omega arith in
         rw z r.coming)
@@ -144,11 +144,11 @@ module _ (c : Chart) (xs : List Arrival) (t e : ℕ) (js : List Job) (flat dues 
     calm =
         record {
           none_comes = λ i u l a b. none_between c.n xs next (suc t) (t + suc k) r.coming few after i u l (omega arith) (omega arith);
-          still = λ b i l. rw (sym (ap (λ ks. due_of c.bounds i (job_at ks i)) r.jobs-are), sym (r.dues-are i l)) (s.still b i l);
+          still = λ b i l. rw (sym (ap (λ ks. due_of c.bounds i (job_at ks i)) r.jobs_are), sym (r.dues_are i l)) (s.still b i l);
           go_on = λ b q i h p.
               let d = job_there i (omega (arith, few, (row_runs q i (rw rows_there p)).0)) in
               rw (sym d) (s.go_on b q i h (rw rows_there p));
-          marked = λ i l. (good_releases c.n c.bounds (brings xs) t js r.jobs-good (omega (arith, s.short)) i l).3;
+          marked = λ i l. (good_releases c.n c.bounds (brings xs) t js r.jobs_good (omega (arith, s.short)) i l).3;
         }
 
     -- a row past n is as it was
@@ -175,10 +175,10 @@ module _ (c : Chart) (xs : List Arrival) (t e : ℕ) (js : List Job) (flat dues 
             let (l, w) = row_runs q i p in
             let b : i < 64 = omega (arith, few) in
             let place : (job_in flat i).place ≡ Running w.part w.left = sym (ap (λ (x : Job). x.place) (jobs_at_lem flat i b)) ∙ w.place_is in
-            get_d_tab 64 (λ i. push t k (job_in flat i)) i no_job b
-            ∙ push_picked rows c.bounds c.homes t k q i w.part w.left (job_in flat i) place w.home-is p
+            get_or-tab 64 (λ i. push t k (job_in flat i)) i no_job b
+            ∙ push_picked rows c.bounds c.homes t k q i w.part w.left (job_in flat i) place w.home_is p
             ∙ ap (push_row rows c.homes t k i) (job_there i b)
-            ∙ sym (get_d_filled 64 no_job (λ i. push_row rows c.homes t k i (job_at there i)) c.n i no_job l)
+            ∙ sym (get_or-filled 64 no_job (λ i. push_row rows c.homes t k i (job_at there i)) c.n i no_job l)
 
         go : (row : ℕ) → get_or rows q 0 ≡ row → noted c.bounds (t + k) (tab 64 (λ i. push t k (job_in flat i))) row worst ≡ noted c.bounds (t + k) (filled 64 no_job c.n (λ i. push_row rows c.homes t k i (job_at there i))) row worst
         go zero p = refl
@@ -198,7 +198,7 @@ module _ (c : Chart) (xs : List Arrival) (t e : ℕ) (js : List Job) (flat dues 
     unfolding bytes
     bytes_after lane size e l =
         let m : size ≡ c.m = sym (length-tab size (λ q. byte_of (jobs_in flat) (get_or rows (suc q) 0))) ∙ sym (ap length e) ∙ l in
-        e ∙ rw (m, rows_there, r.jobs-are)
+        e ∙ rw (m, rows_there, r.jobs_are)
 
     -- so the ticks of the stretch are those of the machine
     pub stretched : (worst flat' worst' lane : List ℕ) (size : ℕ) → jobs_in flat' ≡ tab 64 after_at → worst' ≡ noted_to c.bounds (t + k) (tab 64 (λ i. push t k (job_in flat i))) rows c.m worst
@@ -216,4 +216,4 @@ module _ (c : Chart) (xs : List Arrival) (t e : ℕ) (js : List Job) (flat dues 
     pub dues_after : (flat' dues' : List ℕ) → ((i : ℕ) → i < 64 → get_or dues i 0 ≡ due_of c.bounds i (job_in flat i) → get_or dues' i 0 ≡ due_of c.bounds i (job_in flat' i)) → Dues c.n c.bounds (jobs_in flat') dues'
     dues_after flat' dues' h i l =
         let b : i < 64 = omega (arith, few) in
-        rw (jobs_at_lem flat' i b) (h i b (r.dues-are i l ∙ ap (due_of c.bounds i) (jobs_at_lem flat i b)))
+        rw (jobs_at_lem flat' i b) (h i b (r.dues_are i l ∙ ap (due_of c.bounds i) (jobs_at_lem flat i b)))

@@ -18,7 +18,7 @@ use chain::{Job, Place};
 
 // The place that the arrivals have come to; the first row, counted from 0, with a release that comes too early, n if there is none;
 // and how many ticks were stepped.
-#[derive(Drop)]
+#[derive(Clone, Copy)]
 pub struct Stretched {
     pub next: usize,
     pub late: usize,

@@ -7,7 +7,7 @@ use native.Mathlib.Omega.{arith}
 use borrow.Author.Tests.{ltb-true, ltb-false, lt-ltb}
 use lib.ListN.{get_or}
 use lib.Dec.{ltb, eqb}
-use Rattle.lists.proofs.Tab.{get_d_filled}
+use Rattle.lists.proofs.Tab.{get_or-filled}
 use Rattle.lists.proofs.First.{first_yes, good_before}
 use Rattle.table.specs.Row.{task_of, spare_of, judged, row_of, number_of}
 use Rattle.table.specs.Table.{task_count, processor_count, protocol_bit, header_number, row_bytes, row_number, first_bad, column, ranked, table_of, refusal, accepted, rows_reading, reading_of}
@@ -35,7 +35,7 @@ module _ (bs : List ℕ) (n : ℕ) where
   -- row k's place in a column
   at_column : (f : Task → ℕ) (k : ℕ) → k < n → get_or (column bs n f) k 0 ≡ f (task_of (row_bytes bs k))
   unfolding column
-  at_column f k l = get_d_filled 64 0 (λ j. f (task_of (row_bytes bs j))) n k 0 l
+  at_column f k l = get_or-filled 64 0 (λ j. f (task_of (row_bytes bs j))) n k 0 l
 
   -- row k of the table is what its eleven bytes say
   pub task_read : (m : ℕ) (npp : Bool) (k : ℕ) → k < n → task_at (table_of bs n m npp) k ≡ task_of (row_bytes bs k)

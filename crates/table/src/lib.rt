@@ -6,7 +6,7 @@ ghost use Rattle.table.specs.Row.{outside as outside_lem, judged, row_of, number
 ghost use Rattle.table.specs.Table.{header_number as header_number_lem, row_bytes, ranked, rows_reading, refusal, refusal_of as refusal_of_lem, accepted, reading_of};
 
 // A row's fields: period, length of stage one, of the section and of stage two, and the resource (0 is none).
-#[derive(Drop)]
+#[derive(Clone, Copy)]
 struct Task {
     period: u32,
     c1: u32,
@@ -16,7 +16,7 @@ struct Task {
 }
 
 // A row, or why it is refused.
-#[derive(Drop)]
+#[derive(Clone, Copy)]
 enum RowRead {
     Good(Task),
     BadPeriod,
@@ -49,7 +49,7 @@ pub struct Reading {
 }
 
 // A refusal by itself: its number, 0 if there is none, and the row that it names.
-#[derive(Drop)]
+#[derive(Clone, Copy)]
 pub struct Refusal {
     pub number: u32,
     pub names: u32,

@@ -11,7 +11,7 @@ use borrow.Author.Rules.{rules}
 use borrow.Author.Tests.{eq-eqb, ne_eqb}
 use lib.ListN.{length, get_or, set, length-set}
 use lib.Seq.{get_or-set_same, get_or-set_other}
-use Rattle.lists.proofs.Tab.{length-blank, get_d_blank}
+use Rattle.lists.proofs.Tab.{length-blank, get_or-blank}
 use Rattle.arrivals.specs.Arrival.{Arrival, arrival_at, arrival_in, arrivals_of}
 use Rattle.arrivals.specs.Check.{last_of, number_at}
 use Rattle.arrivals.proofs.Flat.{length_arrivals, arrival_at_lem}
@@ -63,7 +63,7 @@ loop-holds : tie.Need-loop-init invariant-loop decreases-loop
 unfolding last_of
 loop-holds c =
     let e = c.no-column.ensures in
-    let z : (i : ℕ) → get_or c.no-column.result i 0 ≡ 0 = λ i. rw e (get_d_blank 64 0 i) in
+    let z : (i : ℕ) → get_or c.no-column.result i 0 ≡ 0 = λ i. rw e (get_or-blank 64 0 i) in
     (omega arith, rw e (length-blank 64 0), λ j l. absurd (omega arith), λ i l. (omega (arith, z i), z i))
 
 number-at-requires : tie.Need-number-at-requires invariant-loop decreases-loop

@@ -35,13 +35,13 @@ blockings-requires c κs = c.before.before.before.before.before.before.before.be
 first-uncovered-requires : tie.Need-first-uncovered-requires
 first-uncovered-requires c κs =
     let s = c.before.before.before.before.before.before.before.before.before.before.before.before.before.before.before.before.before.before.before.before.before.before.before.before.before.before.before.before.before.before.before.before.before in
-    rw (c.before.before.before.before.before.before.before.blockings.ensures, c.before.before.before.before.before.before.before.before.before.before.before.of-resource2.ensures, c.before.before.before.before.before.before.before.before.before.before.before.before.before.before.of-resource.ensures, c.before.before.before.before.before.before.before.before.before.before.before.before.before.before.before.before.before.in-rank3.ensures, c.before.before.before.before.before.before.before.before.before.before.before.before.before.before.before.before.before.before.before.before.in-rank2.ensures, c.before.before.before.before.before.before.before.before.before.before.before.before.before.before.before.before.before.before.before.before.before.before.before.in-rank.ensures)
+    rw (c.before.before.before.before.before.before.before.blockings.ensures, c.before.before.before.before.before.before.before.before.before.before.before.of-resource2.ensures, c.before.before.before.before.before.before.before.before.before.before.before.before.before.before.of_resource.ensures, c.before.before.before.before.before.before.before.before.before.before.before.before.before.before.before.before.before.in-rank3.ensures, c.before.before.before.before.before.before.before.before.before.before.before.before.before.before.before.before.before.before.before.before.in-rank2.ensures, c.before.before.before.before.before.before.before.before.before.before.before.before.before.before.before.before.before.before.before.before.before.before.before.in-rank.ensures)
     (s.requires.0.rows.1, section_asked s.args.t s.requires.0 s.args.p s.requires.1)
 
 returns : tie.Need-returns
 returns c =
     let s = c.before.before.before.before.before.before.before.before.before.before.before.before.before.before.before.before.before.before.before.before.before.before.before.before.before.before.before.before.before.before.before.before.before.before in
-    section_first s.args.t s.requires.0 s.args.p c.before.before.before.before.before.before.before.before.before.before.before.before.before.before.before.before.before.before.before.before.before.before.before.before.in-rank.ensures c.before.before.before.before.before.before.before.before.before.before.before.before.before.before.before.before.before.before.before.before.before.in-rank2.ensures c.before.before.before.before.before.before.before.before.before.before.before.before.before.before.before.before.before.before.in-rank3.ensures c.before.before.before.before.before.before.before.before.before.before.before.before.before.before.before.of-resource.ensures c.before.before.before.before.before.before.before.before.before.before.before.before.of-resource2.ensures c.before.before.before.before.before.before.before.before.blockings.ensures _ c.first-uncovered.ensures
+    section_first s.args.t s.requires.0 s.args.p c.before.before.before.before.before.before.before.before.before.before.before.before.before.before.before.before.before.before.before.before.before.before.before.before.in-rank.ensures c.before.before.before.before.before.before.before.before.before.before.before.before.before.before.before.before.before.before.before.before.before.in-rank2.ensures c.before.before.before.before.before.before.before.before.before.before.before.before.before.before.before.before.before.before.in-rank3.ensures c.before.before.before.before.before.before.before.before.before.before.before.before.before.before.before.of_resource.ensures c.before.before.before.before.before.before.before.before.before.before.before.before.of-resource2.ensures c.before.before.before.before.before.before.before.before.blockings.ensures _ c.first-uncovered.ensures
 
 pub first-section-spec : {M : Type 1} → statement M
 first-section-spec =

@@ -56,7 +56,7 @@ returns c =
     (λ w. ceilings a.t joined.top (w.1 ∙ c.before.before.before.before.before.before.before.before.before.of-resource2.ensures) w.0.left)
     joined.branch
     in
-    made a.t a.p c.before.before.before.before.before.before.before.before.before.before.before.before.of-resource.result joined.top c.before.before.before.before.interleaved.result c.interleaved2.result c.before.before.before.before.before.before.before.before.before.before.before.before.of-resource.ensures top c.before.before.before.before.interleaved.ensures c.interleaved2.ensures
+    made a.t a.p c.before.before.before.before.before.before.before.before.before.before.before.before.of_resource.result joined.top c.before.before.before.before.interleaved.result c.interleaved2.result c.before.before.before.before.before.before.before.before.before.before.before.before.of_resource.ensures top c.before.before.before.before.interleaved.ensures c.interleaved2.ensures
 
 pub chart-of-spec : {M : Type 1} → statement M
 chart-of-spec =

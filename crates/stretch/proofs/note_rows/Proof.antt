@@ -8,7 +8,7 @@ use native.Mathlib.Numerals.{add-one}
 use borrow.Author.Rules.{rules}
 use lib.ListN.{get_or, length}
 use Rattle.lists.specs.Tab.{tab}
-use Rattle.lists.proofs.Tab.{get_d_tab}
+use Rattle.lists.proofs.Tab.{get_or-tab}
 use Rattle.chain.specs.declared.Job.{Job}
 use Rattle.chain.specs.Job.{no_job}
 use Rattle.chain.specs.Unit.{push}
@@ -39,7 +39,7 @@ module _ (bounds : List ℕ) (t : ℕ) (f : ℕ → Job) (picked old : List ℕ)
   unfolding noted
   noted_more x next h l g n =
       let z : suc (row - 1) ≡ row = omega arith in
-      let d : x ≡ get_or (tab 64 f) (row - 1) no_job = g ∙ sym (get_d_tab 64 f (row - 1) no_job (omega arith)) in
+      let d : x ≡ get_or (tab 64 f) (row - 1) no_job = g ∙ sym (get_or-tab 64 f (row - 1) no_job (omega arith)) in
       n ∙ ap (λ (y : Job). noted_at bounds t (row - 1) y y.place worst) d ∙ ap (λ (k : ℕ). noted bounds t (tab 64 f) k worst) z ∙ noted-next
 
 abbrev invariant-loop : tie.invariant-loop

@@ -32,7 +32,7 @@ record Columns (bs : List ℕ) (i : ℕ) (period c1 a c2 resource : List ℕ) : 
   of-c1 : c1 ≡ column bs i (λ t. t.c1)
   of-a : a ≡ column bs i (λ t. t.a)
   of-c2 : c2 ≡ column bs i (λ t. t.c2)
-  of_resource_lem : resource ≡ column bs i (λ t. t.resource)
+  of_resource : resource ≡ column bs i (λ t. t.resource)
 
 abbrev invariant-loop : tie.invariant-loop
 invariant-loop bytes n m npp period₀ c1₀ a₀ c2₀ resource₀ i₀ period c1 a c2 resource i =
@@ -65,7 +65,7 @@ loop-holds c =
         of-c1 = c.before.before.before.no-column2.ensures ∙ sym (column_none bs (λ t. t.c1));
         of-a = c.before.before.no-column3.ensures ∙ sym (column_none bs (λ t. t.a));
         of-c2 = c.before.no-column4.ensures ∙ sym (column_none bs (λ t. t.c2));
-        of_resource_lem = c.no-column5.ensures ∙ sym (column_none bs (λ t. t.resource));
+        of_resource = c.no-column5.ensures ∙ sym (column_none bs (λ t. t.resource));
       },
       omega arith,
     )
@@ -151,7 +151,7 @@ loop-again c =
         of-c1 = column_more bs (λ t. t.c1) l.i (omega arith) l.c1 g.0.0 l.invariant.1.of-c1 h;
         of-a = column_more bs (λ t. t.a) l.i (omega arith) l.a g.0.0 l.invariant.1.of-a h;
         of-c2 = column_more bs (λ t. t.c2) l.i (omega arith) l.c2 g.0.0 l.invariant.1.of-c2 h;
-        of_resource_lem = column_more bs (λ t. t.resource) l.i (omega arith) l.resource g.0.0 l.invariant.1.of-resource h;
+        of_resource = column_more bs (λ t. t.resource) l.i (omega arith) l.resource g.0.0 l.invariant.1.of_resource h;
       },
       omega arith,
     )
@@ -168,7 +168,7 @@ returns-2 c =
     let n = s.args.n in
     let q : l.i ≡ n = omega arith in
     let cs : Columns bs n l.period l.c1 l.a l.c2 l.resource = rw q at l.invariant.1 in
-    rw (rows_accepted bs n s.args.m s.args.npp (λ k h. l.invariant.0 k (omega arith))) (c.finish.ensures ∙ rw (cs.of-period, cs.of-c1, cs.of-a, cs.of-c2, cs.of-resource))
+    rw (rows_accepted bs n s.args.m s.args.npp (λ k h. l.invariant.0 k (omega arith))) (c.finish.ensures ∙ rw (cs.of-period, cs.of-c1, cs.of-a, cs.of-c2, cs.of_resource))
 
 pub read-rows-spec : {M : Type 1} → statement M
 read-rows-spec =

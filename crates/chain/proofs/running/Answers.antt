@@ -1,0 +1,6 @@
+-- `chain::running` meets its contract.
+use borrow.Author.Rules.{rules}
+use Rattle.chain.proofs.running.Goals as goal
+
+pub returns : goal.returns
+returns c = rw c.mark-begun.ensures
