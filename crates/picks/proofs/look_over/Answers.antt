@@ -1,0 +1,58 @@
+-- `picks::look_over` meets its contract. The loop's invariant: the columns have what each processor has to choose from among the first i rows.
+use Prim.Native.Nat.{◌-◌, ◌≤◌, ◌<◌}
+use mathlib.Core.Path.{◌≡◌, sym, ◌∙◌, ap}
+use mathlib.Core.Logic.{⊎_elim}
+use native.Mathlib.Omega.{arith}
+use borrow.Author.Rules.{rules}
+use Rattle.chain.specs.Good.{part_of, GoodJob}
+use Rattle.jobs.specs.Numbers.{jobs_in}
+use Rattle.jobs.proofs.Laws.{jobs_at_lem}
+use Rattle.picks.proofs.Columns.{Columns, columns_none, columns_same, columns_all, columns_idle, columns_stage, columns_first, columns_held}
+use Rattle.picks.proofs.look_over.Goals as goal
+
+pub loop-i-init : goal.loop-i-init
+loop-i-init c = (search rules, columns_none _ _ _ _ _)
+
+pub job_at-x-requires : goal.job_at-x-requires
+job_at-x-requires c =
+    let s = c in
+    (omega (arith, s.requires.1.few), s.requires.0)
+
+pub home_of-q-requires : goal.home_of-q-requires
+home_of-q-requires c =
+    let l = c.loop-i in
+    let s = c in
+    let b : l.i < 64 = omega (arith, s.requires.1.few) in
+    let job = jobs_at_lem s.args.jobs.now l.i b ∙ sym c.job_at-x.ensures in
+    let good : GoodJob c.job_at-x.result = rw job at (s.requires.2 l.i c.loop-i-test.true) in
+    (b, omega (arith, ap part_of c.in-Running.is, good.part), s.requires.1.on)
+
+pub loop-i-preserved : goal.loop-i-preserved
+loop-i-preserved c =
+    let l = c.loop-i in
+    let s = c in
+    let ranked = s.requires.1.ranked l.i c.loop-i-test.true in
+    let job = jobs_at_lem s.args.jobs.now l.i (omega (arith, s.requires.1.few)) ∙ sym c.job_at-x.ensures in (
+      search rules,
+      ⊎_elim
+          (λ w.
+          columns_same _ _ _ _ _ _ w.8 w.9 w.10 w.11
+          (columns_stage _ _ _ _ _ _ _ _ _ _ l.invariant.1 _ job w.1.given.0.0 w.1.given.0.1.0 _ w.1.given.1 w.3.ensures.0 w.3.ensures.1 _ w.4.taken ranked w.7.ensures))
+          (⊎_elim
+          (λ w.
+          columns_same _ _ _ _ _ _ w.10 w.11 w.12 w.13
+          (columns_first _ _ _ _ _ _ _ _ _ _ l.invariant.1 _ job w.1.given.0.0 w.1.given.0.1.0 _ w.1.given.1 w.3.ensures.0 w.3.ensures.1 _ w.4.left w.6.taken ranked w.9.ensures))
+          (⊎_elim
+          (λ w.
+          columns_same _ _ _ _ _ _ w.11 w.12 w.13 w.14
+          (columns_held _ _ _ _ _ _ _ _ _ _ l.invariant.1 _ job w.1.given.0.0 w.1.given.0.1.0 _ w.1.given.1 w.3.ensures.0 w.3.ensures.1 _ _ w.4.left w.6.left w.8.ensures w.10.ensures))
+          (λ w.
+          columns_same _ _ _ _ _ _ w.1 w.2 w.3 w.4
+          (columns_idle _ _ _ _ _ _ _ _ _ _ l.invariant.1 _ job (λ j t e. ⊎_elim (λ h. omega arith) (λ h. omega arith) (rw e at w.0.keys2))))))
+          c.match-p.branch,
+    )
+
+pub returns : goal.returns
+returns c =
+    let e : c.loop-i.i ≡ c.args.n = omega arith in
+    columns_all _ _ _ _ _ _ _ _ _ (rw e at c.loop-i.invariant.1)

@@ -1,0 +1,18 @@
+-- `picks::look_over` meets its contract. The loop's invariant: the columns have what each processor has to choose from among the first i rows.
+use Prim.Native.Nat.{◌-◌, ◌≤◌, ◌<◌}
+use mathlib.Core.Path.{◌≡◌, sym, ◌∙◌, ap}
+use mathlib.Core.Logic.{⊎_elim}
+use native.Mathlib.Omega.{arith}
+use borrow.Author.Rules.{rules}
+use Rattle.chain.specs.Good.{part_of, GoodJob}
+use Rattle.jobs.specs.Numbers.{jobs_in}
+use Rattle.jobs.proofs.Laws.{jobs_at_lem}
+use Rattle.picks.proofs.Columns.{Columns, columns_none, columns_same, columns_all, columns_idle, columns_stage, columns_first, columns_held}
+use Rattle.picks.proofs.look_over.Given as goal
+
+abbrev pub invariant-loop-i : goal.invariant-loop-i
+invariant-loop-i l =
+    (l.i ≤ l.n) × Columns l.homes l.rank l.top l.n (jobs_in l.jobs) l.i l.first l.last l.stage l.held
+
+abbrev pub decreases-loop-i : goal.decreases-loop-i
+decreases-loop-i l = l.n - l.i

@@ -1,0 +1,17 @@
+-- `spread::lacks` meets its contract. The loop's invariant: the first r places hold what their resources lack.
+use Prim.Native.Nat.{◌+◌, ◌-◌, ◌≤◌}
+use mathlib.Core.Path.{◌≡◌, sym, ◌∙◌}
+use native.Mathlib.Omega.{arith}
+use lib.ListN.{get_or}
+use borrow.Author.Rules.{rules}
+use Rattle.lists.specs.Tab.{filled}
+use Rattle.lists.proofs.Tab.{filled_none, filled_more}
+use Rattle.spread.specs.Weight.{lacks_of}
+use Rattle.spread.proofs.lacks.Given as goal
+
+abbrev pub invariant-loop-r : goal.invariant-loop-r
+invariant-loop-r l =
+    (l.r ≤ 16) × (l.out ≡ filled 64 0 l.r (λ k. 64000000 - get_or l.weight (k + 1) 0))
+
+abbrev pub decreases-loop-r : goal.decreases-loop-r
+decreases-loop-r l = 16 - l.r

@@ -1,0 +1,17 @@
+-- `spread::serve` meets its contract. The loop's invariant: the first j resources of the order are given, and no sum of loads can wrap.
+use Prim.Native.Nat.{ℕ, ◌-◌, ◌<◌, ◌≤◌}
+use mathlib.Core.Path.{◌≡◌, ◌∙◌, ap}
+use mathlib.Core.List.{List}
+use native.Mathlib.Omega.{arith}
+use lib.ListN.{get_or}
+use borrow.Author.Rules.{rules}
+use Rattle.spread.specs.Spread.{lightest_of, loads_of, serves_of}
+use Rattle.spread.proofs.Spread.{loads_more, serves_more, loads_le}
+use Rattle.spread.proofs.serve.Given as goal
+
+abbrev pub invariant-loop-j : goal.invariant-loop-j
+invariant-loop-j l =
+    (l.j ≤ l.u) × (l.serves ≡ serves_of l.weight l.order l.s l.j) × (l.load ≡ loads_of l.weight l.order l.s l.j)
+
+abbrev pub decreases-loop-j : goal.decreases-loop-j
+decreases-loop-j l = l.u - l.j

@@ -1,0 +1,32 @@
+-- `table::read_rows` meets its contract. The loop's invariant: the first i rows are good, and the columns hold them.
+use Prim.Native.Nat.{ℕ, ◌+◌, ◌-◌, ◌≤◌, ◌<◌}
+use mathlib.Core.List.{[], ◌∷◌, List}
+use mathlib.Core.Logic.{⊎_elim}
+use mathlib.Core.Path.{◌≡◌, sym, ◌∙◌, ap}
+use native.Mathlib.Omega.{arith}
+use borrow.Author.Count.{below_more}
+use borrow.Author.Rules.{rules}
+use types.Run.{OneOf}
+use denote.Enum.Declared.{tag_of}
+use Rattle.table.specs.contracts.RowRead.{the_type}
+use Rattle.table.specs.Row.{number_of}
+use Rattle.table.specs.Table.{table_of, row_bytes, refusal, row_number, column}
+use Rattle.table.specs.declared.RowRead.{RowRead}
+use Rattle.table.specs.declared.RowRead.TheVariants.{Good, BadPeriod, BadResource, Disagree, BadSum}
+use Rattle.table.proofs.Laws.{good_task, good_number, Read, rows_refused, rows_accepted, column_none, column_more}
+use Rattle.table.proofs.read_rows.Given as goal
+
+-- the columns hold the first i rows
+pub record Columns (bs : List ℕ) (i : ℕ) (period c1 a c2 resource : List ℕ) : Type 0 where
+  pub of-period : period ≡ column bs i (λ t. t.period)
+  pub of-c1 : c1 ≡ column bs i (λ t. t.c1)
+  pub of-a : a ≡ column bs i (λ t. t.a)
+  pub of-c2 : c2 ≡ column bs i (λ t. t.c2)
+  pub of_resource : resource ≡ column bs i (λ t. t.resource)
+
+abbrev pub invariant-loop-i : goal.invariant-loop-i
+invariant-loop-i l =
+    Read l.bytes l.i × Columns l.bytes l.i l.period l.c1 l.a l.c2 l.resource × (l.i ≤ l.n)
+
+abbrev pub decreases-loop-i : goal.decreases-loop-i
+decreases-loop-i l = l.n - l.i
