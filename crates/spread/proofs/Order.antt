@@ -1,5 +1,5 @@
 -- Laws of the order of resources: each stands in it once, the heavier before the lighter, and those that are used come first.
-use Prim.Native.Nat.{ℕ, suc, ◌+◌, ◌-◌, ◌<◌, ◌≤◌}
+use Prim.Native.Nat.{ℕ, zero, suc, ◌+◌, ◌-◌, ◌<◌, ◌≤◌}
 use mathlib.Core.Path.{◌≡◌, refl, sym, ◌∙◌, ap}
 use mathlib.Core.List.{List}
 use mathlib.Core.Bool.{Bool}
@@ -62,6 +62,7 @@ module _ (weights : List ℕ) where
   -- every resource has a place
   pub heaviest_has : (r : ℕ) → 1 ≤ r → r ≤ 16 → (j : ℕ) × (j < 16) × (get_or (heaviest_of weights) j 0 ≡ r)
   unfolding row
+  heaviest_has zero a b = elim a [ ]
   heaviest_has (suc r) a b =
       let j : ℕ = get_or (ranks_of (lacks_of weights) 16) r 0 in
       let l : j < 16 = at_lt (lacks_of weights) (ranks_of (lacks_of weights) 16) 16 (omega arith) refl r (omega arith) in

@@ -10,7 +10,7 @@ use Rattle.spread.proofs.weight_by.Goals as goal
 
 pub returns-then-not-uses : goal.returns-then-not-uses
 returns-then-not-uses c =
-    let e : c.uses.result ≡ false = not-true c.uses.result c.if-not-uses.true in
+    let e : c.uses.result ≡ false = c.if-not-uses.true in
     (rw (sym c.uses.ensures, e), omega arith)
 
 pub overflow_cast-result-2 : goal.overflow_cast-result-2
@@ -20,5 +20,5 @@ pub returns : goal.returns
 unfolding ceil
 returns c =
     let a = c.args in
-    let e : c.uses.result ≡ true = not-false c.uses.result c.if-not-uses.false in
+    let e : c.uses.result ≡ true = c.if-not-uses.false in
     (rw (sym c.uses.ensures, e), user_le a.section a.period (omega arith) (omega arith))

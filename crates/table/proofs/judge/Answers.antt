@@ -1,10 +1,10 @@
 -- `table::judge` meets its contract. Each return has the tests that led there.
 use mathlib.Core.Bool.{xor}
-use mathlib.Core.Logic.{⊎_elim}
 use mathlib.Core.Path.{sym, ◌∙◌}
 use borrow.Author.Rules.{rules}
 use borrow.Author.Tests.{lt-ltb, le-ltb}
 use Rattle.table.specs.Row.{judged}
+use Rattle.table.proofs.judge.Goals.{then-t-gt16-via-then-t-gt16, then-t-gt16-via-else-t-gt16+then-spare-gt0}
 use Rattle.table.proofs.judge.Goals as goal
 
 pub returns-then-outside : goal.returns-then-outside
@@ -16,14 +16,17 @@ unfolding judged
 returns-then-t-gt16 c =
     let b = c in
     let e = sym b.outside.ensures ∙ b.if-outside.false in
-    ⊎_elim (λ w. simp (e, lt-ltb _ _ w.taken)) (λ w. simp (e, le-ltb _ _ w.0.left, w.1.taken)) c.then-t-gt16.branch
+    elim c.then-t-gt16.branch [
+      then-t-gt16-via-then-t-gt16 w ↦ simp (e, lt-ltb _ _ w.if-t-gt16.true)
+    | then-t-gt16-via-else-t-gt16+then-spare-gt0 w ↦ simp (e, le-ltb _ _ w.if-t-gt16.false, lt-ltb _ _ w.if-spare-gt0.true)
+    ]
 
 pub returns-then-t : goal.returns-then-t
 unfolding judged xor
 returns-then-t c =
     let d = c in
     let b = d in
-    simp (sym b.outside.ensures ∙ b.if-outside.false, le-ltb _ _ d.then-t-gt16.false, d.if-spare-gt0.false, c.if-t.true)
+    simp (sym b.outside.ensures ∙ b.if-outside.false, le-ltb _ _ d.if-t-gt16.false, le-ltb _ _ d.if-spare-gt0.false, c.if-t.true)
 
 pub returns-then-outside-2 : goal.returns-then-outside-2
 unfolding judged xor
@@ -31,7 +34,7 @@ returns-then-outside-2 c =
     let q = c in
     let d = q in
     let b = d in
-    simp (sym b.outside.ensures ∙ b.if-outside.false, le-ltb _ _ d.then-t-gt16.false, d.if-spare-gt0.false, q.if-t.false, sym c.outside-2.ensures ∙ c.if-outside-2.true)
+    simp (sym b.outside.ensures ∙ b.if-outside.false, le-ltb _ _ d.if-t-gt16.false, le-ltb _ _ d.if-spare-gt0.false, q.if-t.false, sym c.outside-2.ensures ∙ c.if-outside-2.true)
 
 pub returns : goal.returns
 unfolding judged xor
@@ -39,4 +42,4 @@ returns c =
     let q = c in
     let d = q in
     let b = d in
-    simp (sym b.outside.ensures ∙ b.if-outside.false, le-ltb _ _ d.then-t-gt16.false, d.if-spare-gt0.false, q.if-t.false, sym c.outside-2.ensures ∙ c.if-outside-2.false)
+    simp (sym b.outside.ensures ∙ b.if-outside.false, le-ltb _ _ d.if-t-gt16.false, le-ltb _ _ d.if-spare-gt0.false, q.if-t.false, sym c.outside-2.ensures ∙ c.if-outside-2.false)

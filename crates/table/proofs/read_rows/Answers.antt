@@ -1,16 +1,13 @@
 -- `table::read_rows` meets its contract. The loop's invariant: the first i rows are good, and the columns hold them.
 use Prim.Native.Nat.{ℕ, ◌+◌, ◌-◌, ◌≤◌, ◌<◌}
 use mathlib.Core.List.{[], ◌∷◌, List}
-use mathlib.Core.Logic.{⊎_elim}
-use mathlib.Core.Path.{◌≡◌, sym, ◌∙◌, ap}
+use mathlib.Core.Path.{◌≡◌, refl, sym, ◌∙◌, ap}
 use native.Mathlib.Omega.{arith}
 use borrow.Author.Count.{below_more}
 use borrow.Author.Rules.{rules}
-use types.Run.{OneOf}
-use denote.Enum.Declared.{tag_of}
-use Rattle.table.specs.contracts.RowRead.{the_type}
 use Rattle.table.specs.Row.{number_of}
 use Rattle.table.specs.Table.{table_of, row_bytes, refusal, row_number, column}
+use Rattle.table.specs.declared.Task.{Task}
 use Rattle.table.specs.declared.RowRead.{RowRead}
 use Rattle.table.specs.declared.RowRead.TheVariants.{Good, BadPeriod, BadResource, Disagree, BadSum}
 use Rattle.table.proofs.Laws.{good_task, good_number, Read, rows_refused, rows_accepted, column_none, column_more}
@@ -18,9 +15,9 @@ use Rattle.table.proofs.read_rows.Invariants.{Columns}
 use Rattle.table.proofs.read_rows.Goals as goal
 
 -- the arm that is no good row has a refusal
-told : (r : RowRead) → OneOf (1 ∷ 2 ∷ 3 ∷ 4 ∷ []) (tag_of the_type r) → 0 < number_of r
+told : (r : RowRead) → ((t : Task) → r ≡ Good t → ⊥) → 0 < number_of r
 unfolding number_of
-told (Good t) h = absurd (⊎_elim (λ e. omega arith) (⊎_elim (λ e. omega arith) (⊎_elim (λ e. omega arith) (λ e. omega arith))) h)
+told (Good t) h = absurd (h t refl)
 told BadPeriod h = omega arith
 told BadResource h = omega arith
 told Disagree h = omega arith
@@ -31,10 +28,10 @@ loop-i-init c =
     let bs = c.args.bytes.now in (
       λ k l. absurd (omega arith),
       record {
-        of-period = c.no_column-period.ensures ∙ sym (column_none bs (λ t. t.period));
-        of-c1 = c.no_column-c1.ensures ∙ sym (column_none bs (λ t. t.c1));
-        of-a = c.no_column-a.ensures ∙ sym (column_none bs (λ t. t.a));
-        of-c2 = c.no_column-c2.ensures ∙ sym (column_none bs (λ t. t.c2));
+        of_period = c.no_column-period.ensures ∙ sym (column_none bs (λ t. t.period));
+        of_c1 = c.no_column-c1.ensures ∙ sym (column_none bs (λ t. t.c1));
+        of_a = c.no_column-a.ensures ∙ sym (column_none bs (λ t. t.a));
+        of_c2 = c.no_column-c2.ensures ∙ sym (column_none bs (λ t. t.c2));
         of_resource = c.no_column-resource.ensures ∙ sym (column_none bs (λ t. t.resource));
       },
       omega arith,
@@ -48,7 +45,7 @@ returns-in_default c =
     let s = r in
     let bs = s.args.bytes.now in
     let n : c.number_of.result ≡ row_number bs l.i = c.number_of.ensures ∙ ap number_of r.row_at-row.ensures in
-    let b : 0 < row_number bs l.i = omega (arith, told r.row_at-row.result c.in_default.keys2, c.number_of.ensures) in
+    let b : 0 < row_number bs l.i = omega (arith, told r.row_at-row.result c.in_default.not-Good, c.number_of.ensures) in
     c.refuse.ensures ∙ ap (λ (x : ℕ). refusal x (l.i + 1)) n ∙ sym (rows_refused bs s.args.n s.args.m s.args.npp l.i (omega arith) l.invariant.0 b)
 
 pub loop-i-preserved : goal.loop-i-preserved
@@ -62,10 +59,10 @@ loop-i-preserved c =
     let h = good_task (row_bytes bs l.i) c.in-Good.t e in (
       below_more _ _ l.invariant.0 (good_number (row_bytes bs l.i) c.in-Good.t e),
       record {
-        of-period = column_more bs (λ t. t.period) l.i (omega arith) l.period c.in-Good.t l.invariant.1.of-period h;
-        of-c1 = column_more bs (λ t. t.c1) l.i (omega arith) l.c1 c.in-Good.t l.invariant.1.of-c1 h;
-        of-a = column_more bs (λ t. t.a) l.i (omega arith) l.a c.in-Good.t l.invariant.1.of-a h;
-        of-c2 = column_more bs (λ t. t.c2) l.i (omega arith) l.c2 c.in-Good.t l.invariant.1.of-c2 h;
+        of_period = column_more bs (λ t. t.period) l.i (omega arith) l.period c.in-Good.t l.invariant.1.of_period h;
+        of_c1 = column_more bs (λ t. t.c1) l.i (omega arith) l.c1 c.in-Good.t l.invariant.1.of_c1 h;
+        of_a = column_more bs (λ t. t.a) l.i (omega arith) l.a c.in-Good.t l.invariant.1.of_a h;
+        of_c2 = column_more bs (λ t. t.c2) l.i (omega arith) l.c2 c.in-Good.t l.invariant.1.of_c2 h;
         of_resource = column_more bs (λ t. t.resource) l.i (omega arith) l.resource c.in-Good.t l.invariant.1.of_resource h;
       },
       omega arith,
@@ -80,4 +77,4 @@ returns c =
     let n = s.args.n in
     let q : l.i ≡ n = omega arith in
     let cs : Columns bs n l.period l.c1 l.a l.c2 l.resource = rw q at l.invariant.1 in
-    rw (rows_accepted bs n s.args.m s.args.npp (λ k h. l.invariant.0 k (omega arith))) (c.finish.ensures ∙ rw (cs.of-period, cs.of-c1, cs.of-a, cs.of-c2, cs.of_resource))
+    rw (rows_accepted bs n s.args.m s.args.npp (λ k h. l.invariant.0 k (omega arith))) (c.finish.ensures ∙ rw (cs.of_period, cs.of_c1, cs.of_a, cs.of_c2, cs.of_resource))

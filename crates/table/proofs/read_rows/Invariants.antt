@@ -18,10 +18,10 @@ use Rattle.table.proofs.read_rows.Given as goal
 
 -- the columns hold the first i rows
 pub record Columns (bs : List ℕ) (i : ℕ) (period c1 a c2 resource : List ℕ) : Type 0 where
-  pub of-period : period ≡ column bs i (λ t. t.period)
-  pub of-c1 : c1 ≡ column bs i (λ t. t.c1)
-  pub of-a : a ≡ column bs i (λ t. t.a)
-  pub of-c2 : c2 ≡ column bs i (λ t. t.c2)
+  pub of_period : period ≡ column bs i (λ t. t.period)
+  pub of_c1 : c1 ≡ column bs i (λ t. t.c1)
+  pub of_a : a ≡ column bs i (λ t. t.a)
+  pub of_c2 : c2 ≡ column bs i (λ t. t.c2)
   pub of_resource : resource ≡ column bs i (λ t. t.resource)
 
 abbrev pub invariant-loop-i : goal.invariant-loop-i
