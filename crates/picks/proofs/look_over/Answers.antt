@@ -8,6 +8,7 @@ use Rattle.chain.specs.Good.{part_of, GoodJob}
 use Rattle.jobs.specs.Numbers.{jobs_in}
 use Rattle.jobs.proofs.Laws.{jobs_at_lem}
 use Rattle.picks.proofs.Columns.{Columns, columns_none, columns_same, columns_all, columns_idle, columns_stage, columns_first, columns_held}
+use Rattle.picks.proofs.look_over.Goals.{in-Running+then-part-ne1, in-Running+else-part-ne1+then-x-eq0, in-Running+else-part-ne1+else-x-eq0, in_default}
 use Rattle.picks.proofs.look_over.Goals as goal
 
 pub loop-i-init : goal.loop-i-init
@@ -34,22 +35,20 @@ loop-i-preserved c =
     let ranked = s.requires.1.ranked l.i c.loop-i-test.true in
     let job = jobs_at_lem s.args.jobs.now l.i (omega (arith, s.requires.1.few)) ∙ sym c.job_at-x.ensures in (
       search rules,
-      ⊎_elim
-          (λ w.
-          columns_same _ _ _ _ _ _ w.8 w.9 w.10 w.11
-          (columns_stage _ _ _ _ _ _ _ _ _ _ l.invariant.1 _ job w.1.given.0.0 w.1.given.0.1.0 _ w.1.given.1 w.3.ensures.0 w.3.ensures.1 _ w.4.taken ranked w.7.ensures))
-          (⊎_elim
-          (λ w.
-          columns_same _ _ _ _ _ _ w.10 w.11 w.12 w.13
-          (columns_first _ _ _ _ _ _ _ _ _ _ l.invariant.1 _ job w.1.given.0.0 w.1.given.0.1.0 _ w.1.given.1 w.3.ensures.0 w.3.ensures.1 _ w.4.left w.6.taken ranked w.9.ensures))
-          (⊎_elim
-          (λ w.
-          columns_same _ _ _ _ _ _ w.11 w.12 w.13 w.14
-          (columns_held _ _ _ _ _ _ _ _ _ _ l.invariant.1 _ job w.1.given.0.0 w.1.given.0.1.0 _ w.1.given.1 w.3.ensures.0 w.3.ensures.1 _ _ w.4.left w.6.left w.8.ensures w.10.ensures))
-          (λ w.
-          columns_same _ _ _ _ _ _ w.1 w.2 w.3 w.4
-          (columns_idle _ _ _ _ _ _ _ _ _ _ l.invariant.1 _ job (λ j t e. ⊎_elim (λ h. omega arith) (λ h. omega arith) (rw e at w.0.keys2))))))
-          c.match-p.branch,
+      elim c.match-p.branch [
+        in-Running+then-part-ne1 w ↦
+          columns_same _ _ _ _ _ _ w.first-is w.last-is w.stage-is w.held-is
+          (columns_stage _ _ _ _ _ _ _ _ _ _ l.invariant.1 _ job w.in-Running.part w.in-Running.left _ w.in-Running.is w.home_of-q.ensures.0 w.home_of-q.ensures.1 _ w.if-part-ne1.true ranked w.smaller_key.ensures)
+      | in-Running+else-part-ne1+then-x-eq0 w ↦
+          columns_same _ _ _ _ _ _ w.first-is w.last-is w.stage-is w.held-is
+          (columns_first _ _ _ _ _ _ _ _ _ _ l.invariant.1 _ job w.in-Running.part w.in-Running.left _ w.in-Running.is w.home_of-q.ensures.0 w.home_of-q.ensures.1 _ w.if-part-ne1.false w.if-x-eq0.true ranked w.smaller_key-then-x-eq0.ensures)
+      | in-Running+else-part-ne1+else-x-eq0 w ↦
+          columns_same _ _ _ _ _ _ w.first-is w.last-is w.stage-is w.held-is
+          (columns_held _ _ _ _ _ _ _ _ _ _ l.invariant.1 _ job w.in-Running.part w.in-Running.left _ w.in-Running.is w.home_of-q.ensures.0 w.home_of-q.ensures.1 _ _ w.if-part-ne1.false w.if-x-eq0.false w.larger_key.ensures w.smaller.ensures)
+      | in_default w ↦
+          columns_same _ _ _ _ _ _ w.first-is w.last-is w.stage-is w.held-is
+          (columns_idle _ _ _ _ _ _ _ _ _ _ l.invariant.1 _ job w.in_default.not-Running)
+      ],
     )
 
 pub returns : goal.returns
