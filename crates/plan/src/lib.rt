@@ -17,7 +17,7 @@ use table::Table;
 // The tasks of a table in rank order, a place for each, and what every trial needs: C1 + C2, the ceiling of the task's
 // resource, its row; the rank of each row; the weight of each resource at its number, the resources heaviest first, and how
 // many are used.
-#[derive(Drop)]
+#[derive(Clone, Copy)]
 struct Tasks {
     n: usize,
     m: usize,

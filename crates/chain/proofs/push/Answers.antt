@@ -8,21 +8,21 @@ use Rattle.chain.proofs.Places.{rests}
 use Rattle.chain.proofs.push.Goals as goal
 
 -- no unit leaves the job as it is,
-none-run : (t : ℕ) (x : Job) (p : Place) → push_at t 0 x p ≡ x
+none_run : (t : ℕ) (x : Job) (p : Place) → push_at t 0 x p ≡ x
 unfolding push_at pushed
-none-run t x Idle = refl
-none-run t x (Waiting u j) = refl
-none-run t x (Running j l) = refl
+none_run t x Idle = refl
+none_run t x (Waiting u j) = refl
+none_run t x (Running j l) = refl
 
 -- and some are taken off what is left
-some-run : (t k : ℕ) (x : Job) (j l b : ℕ) → (k ≡ 0 → ⊥) → x.place ≡ Running j l → b ≡ mark t x.begun
+some_run : (t k : ℕ) (x : Job) (j l b : ℕ) → (k ≡ 0 → ⊥) → x.place ≡ Running j l → b ≡ mark t x.begun
     → record { place = Running j (l - k); arrived = x.arrived; lens = x.lens; begun = b; ended = x.ended; ran = x.ran + k } ≡ push t k x
 unfolding push_at pushed
-some-run t zero x j l b h e f = absurd (h refl)
-some-run t (suc k) x j l b h e f = rw f (sym (ap (push_at t (suc k) x) e))
+some_run t zero x j l b h e f = absurd (h refl)
+some_run t (suc k) x j l b h e f = rw f (sym (ap (push_at t (suc k) x) e))
 
 pub returns-then-k-eq0 : goal.returns-then-k-eq0
-returns-then-k-eq0 c = let a = c.args in rw c.if-k-eq0.true (sym (none-run a.t a.x a.x.place))
+returns-then-k-eq0 c = let a = c.args in rw c.if-k-eq0.true (sym (none_run a.t a.x a.x.place))
 
 pub returns-in_default : goal.returns-in_default
 unfolding push_at
@@ -36,4 +36,4 @@ overflow_sub-place c = let s = c in s.requires.2 _ _ c.in-Running.is
 pub returns : goal.returns
 returns c =
     let a = c.args in
-    some-run a.t a.k a.x c.in-Running.part c.in-Running.left c.mark-begun.result c.if-k-eq0.false c.in-Running.is c.mark-begun.ensures
+    some_run a.t a.k a.x c.in-Running.part c.in-Running.left c.mark-begun.result c.if-k-eq0.false c.in-Running.is c.mark-begun.ensures

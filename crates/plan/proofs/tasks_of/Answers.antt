@@ -1,0 +1,75 @@
+-- `plan::tasks_of` meets its contract. Each column is what its call promises; together they are the tasks.
+use Rattle.spread.proofs.Weight.{weights-le}
+use Rattle.plan.proofs.Ordered.{good_rows, small_works, small_resources, tasks_made}
+use Rattle.plan.proofs.tasks_of.Goals as goal
+
+pub numbers_to-number-requires : goal.numbers_to-number-requires
+numbers_to-number-requires c = c.requires.rows.1
+
+pub in_rank-c1-requires : goal.in_rank-c1-requires
+in_rank-c1-requires c =
+    let s = c in
+    (s.requires.rows.1, (s.args.t.period, s.requires.ranks))
+
+pub in_rank-c2-requires : goal.in_rank-c2-requires
+in_rank-c2-requires c =
+    let s = c in
+    (s.requires.rows.1, (s.args.t.period, s.requires.ranks))
+
+pub in_rank-named-requires : goal.in_rank-named-requires
+in_rank-named-requires c =
+    let s = c in
+    (s.requires.rows.1, (s.args.t.period, s.requires.ranks))
+
+pub weights-weight-requires : goal.weights-weight-requires
+weights-weight-requires c =
+    let s = c in
+    (s.requires.rows.1, good_rows s.args.t s.requires)
+
+pub in_rank-requires : goal.in_rank-requires
+in_rank-requires c =
+    let s = c in
+    (s.requires.rows.1, (s.args.t.period, s.requires.ranks))
+
+pub in_rank-requires-2 : goal.in_rank-requires-2
+in_rank-requires-2 c =
+    let s = c in
+    (s.requires.rows.1, (s.args.t.period, s.requires.ranks))
+
+pub works-requires : goal.works-requires
+works-requires c =
+    let s = c in
+    rw (c.in_rank-c1.ensures, c.in_rank-c2.ensures) (s.requires.rows.1, small_works s.args.t s.requires)
+
+pub of_resource-requires : goal.of_resource-requires
+of_resource-requires c =
+    let s = c in
+    rw c.in_rank-named.ensures (s.requires.rows.1, small_resources s.args.t s.requires)
+
+pub in_rank-requires-3 : goal.in_rank-requires-3
+in_rank-requires-3 c =
+    let s = c in
+    (s.requires.rows.1, (s.args.t.period, s.requires.ranks))
+
+pub heaviest-requires : goal.heaviest-requires
+heaviest-requires c =
+    let s = c in
+    let t = s.args.t in
+    rw c.weights-weight.ensures (weights-le t.period t.a t.resource t.n s.requires.rows.1 (good_rows t s.requires))
+
+pub returns : goal.returns
+returns c =
+    let period = c.in_rank in
+    let c1 = c.in_rank-c1 in
+    let a = c.in_rank-2 in
+    let c2 = c.in_rank-c2 in
+    let work = c.works in
+    let resource = c.in_rank-named in
+    let top = c.of_resource in
+    let number = c.numbers_to-number in
+    let row = c.in_rank-3 in
+    let weight = c.weights-weight in
+    let heaviest = c.heaviest in
+    let used = c.used in
+    tasks_made c.args.t period.result c1.result a.result c2.result work.result resource.result top.result number.result row.result weight.result heaviest.result used.result
+    period.ensures c1.ensures a.ensures c2.ensures work.ensures resource.ensures top.ensures number.ensures row.ensures weight.ensures heaviest.ensures used.ensures.0
