@@ -14,7 +14,7 @@ use Rattle.lists.proofs.First.{first_bad_lem, none_bad}
 use Rattle.table.specs.Row.{outside}
 use Rattle.table.proofs.Laws.{inside}
 use Rattle.arrivals.specs.Arrival.{Arrival, arrival_at}
-use Rattle.arrivals.specs.Check.{disordered, last_of, less_than_tAgo, number_at, first_bad, heard_of}
+use Rattle.arrivals.specs.Check.{disordered, last_of, less_than_t_ago, number_at, first_bad, heard_of}
 
 -- 15 is not given
 abbrev pub RowFine : ℕ → Arrival → Type 0
@@ -56,7 +56,7 @@ module _ (n : ℕ) (periods c1s secs c2s : List ℕ) (xs : List Arrival) (k : �
   too_long = ltb (get_or c1s (x.row - 1) 0) x.len1 || (ltb (get_or secs (x.row - 1) 0) x.len2 || ltb (get_or c2s (x.row - 1) 0) x.len3)
 
   abbrev early : Bool
-  early = less_than_tAgo x.tick (last_of xs x.row k) (get_or periods (x.row - 1) 0)
+  early = less_than_t_ago x.tick (last_of xs x.row k) (get_or periods (x.row - 1) 0)
 
   -- the number by the tests
   number_by : number_at n periods c1s secs c2s xs k ≡ cond bad_row 15 (cond bad_tick 16 (cond too_long 17 (cond early 18 0)))

@@ -20,8 +20,8 @@ last_of xs r zero = 0
 last_of xs r (suc k) = cond (eqb (arrival_at xs k).row r) (suc (arrival_at xs k).tick) (last_of xs r k)
 
 -- "less than T ago", where `last` is such a mark
-abbrev pub less_than_tAgo : ℕ → ℕ → ℕ → Bool
-less_than_tAgo tick last period = ltb 0 last && ltb (suc tick) (last + period)
+abbrev pub less_than_t_ago : ℕ → ℕ → ℕ → Bool
+less_than_t_ago tick last period = ltb 0 last && ltb (suc tick) (last + period)
 
 module _ (n : ℕ) (periods c1s secs c2s : List ℕ) (xs : List Arrival) where
   -- 15: "row not in 1 to n"
@@ -41,7 +41,7 @@ module _ (n : ℕ) (periods c1s secs c2s : List ℕ) (xs : List Arrival) where
 
   -- 18: "same row's last arrival less than T ago"
   abbrev pub early : ℕ → Bool
-  early k = less_than_tAgo (arrival_at xs k).tick (last_of xs (arrival_at xs k).row k) (get_or periods ((arrival_at xs k).row - 1) 0)
+  early k = less_than_t_ago (arrival_at xs k).tick (last_of xs (arrival_at xs k).row k) (get_or periods ((arrival_at xs k).row - 1) 0)
 
   -- the lowest number that the arrival at place k gives, or 0
   unfoldable pub number_at : ℕ → ℕ

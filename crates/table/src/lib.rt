@@ -26,7 +26,7 @@ enum RowRead {
 }
 
 // The columns of a table, a place for each row; the rank of each row, from 0; the ceiling of each resource, at its number.
-#[derive(Drop)]
+#[derive(Clone, Copy)]
 pub struct Table {
     pub n: usize,
     pub m: usize,

@@ -33,17 +33,9 @@ kept_more xs n k last x e r l t kept i h =
     let g : get_or (set last (x.row - 1) (x.tick + 1)) i 0 ≡ get_or last i 0 = get_or-set_other last (x.row - 1) i (x.tick + 1) 0 (λ p. q (omega arith)) in
     rw (add-one k, e, ne_eqb _ _ q, g) (kept i h))
 
--- an arrival that is passed has no refusal
-number : (c : tie.Else1 invariant-loop decreases-loop) → let a = c.before.before.before.before.before.before.before.args in number_at a.n a.period.now a.c1.now a.a.now a.c2.now (arrivals_of a.flat.now a.count) c.before.before.before.before.loop.k ≡ 0
-number c = omega (arith, c.before.number_at.ensures)
-
-passed : (c : tie.Else1 invariant-loop decreases-loop) →
-    let a = c.before.before.before.before.before.before.before.args in
-    let k = c.before.before.before.before.loop.k in
-    Fine a.n a.period.now a.c1.now a.a.now a.c2.now (arrivals_of a.flat.now a.count) k (arrival_in a.flat.now k)
-passed c =
-    let a = c.before.before.before.before.before.before.before.args in
-    fine _ _ _ _ _ _ _ _ (arrival_at_lem a.flat.now a.count c.before.before.before.before.loop.k (omega arith)) (number c)
+-- an arrival that has no refusal is fine
+passed : (n : ℕ) (periods c1s secs c2s flat : List ℕ) (count k : ℕ) → k < count → number_at n periods c1s secs c2s (arrivals_of flat count) k ≡ 0 → Fine n periods c1s secs c2s (arrivals_of flat count) k (arrival_in flat k)
+passed n periods c1s secs c2s flat count k l e = fine n periods c1s secs c2s (arrivals_of flat count) k (arrival_in flat k) (arrival_at_lem flat count k l) e
 
 pub loop-k-init : goal.loop-k-init
 unfolding last_of
@@ -67,35 +59,48 @@ returns-then-number-gt0 c =
     rw (e, add-one) (sym b)
 
 pub overflow_cast-i : goal.overflow_cast-i
-overflow_cast-i c = omega (arith, c.shared_slice_known-in-loop-k-1.given (5 * c.loop-k.k + 1))
+overflow_cast-i c = omega (arith, c.type_inv.flat (5 * c.loop-k.k + 1))
 
 pub overflow_sub-i : goal.overflow_sub-i
 unfolding arrival_in
-overflow_sub-i c = omega (arith, (passed c).row)
+overflow_sub-i c =
+    let a = c.args in
+    let fine_here = passed a.n a.period.now a.c1.now a.a.now a.c2.now a.flat.now a.count c.loop-k.k c.loop-k-test.true (omega (arith, c.number_at-number.ensures, c.if-number-gt0.false)) in
+    omega (arith, fine_here.row)
 
 pub overflow_add-last : goal.overflow_add-last
 unfolding arrival_in
-overflow_add-last c = omega (arith, (passed c).tick.0)
+overflow_add-last c =
+    let a = c.args in
+    let fine_here = passed a.n a.period.now a.c1.now a.a.now a.c2.now a.flat.now a.count c.loop-k.k c.loop-k-test.true (omega (arith, c.number_at-number.ensures, c.if-number-gt0.false)) in
+    omega (arith, fine_here.tick.0)
 
 pub offset_bounds-last-i : goal.offset_bounds-last-i
 unfolding arrival_in
-offset_bounds-last-i c = omega (arith, (passed c).row)
+offset_bounds-last-i c =
+    let a = c.args in
+    let fine_here = passed a.n a.period.now a.c1.now a.a.now a.c2.now a.flat.now a.count c.loop-k.k c.loop-k-test.true (omega (arith, c.number_at-number.ensures, c.if-number-gt0.false)) in
+    omega (arith, fine_here.row)
 
 pub bounds-last-i : goal.bounds-last-i
 unfolding arrival_in
-bounds-last-i c = omega (arith, (passed c).row)
+bounds-last-i c =
+    let a = c.args in
+    let fine_here = passed a.n a.period.now a.c1.now a.a.now a.c2.now a.flat.now a.count c.loop-k.k c.loop-k-test.true (omega (arith, c.number_at-number.ensures, c.if-number-gt0.false)) in
+    omega (arith, fine_here.row)
 
 pub loop-k-preserved : goal.loop-k-preserved
 unfolding arrival_in
 loop-k-preserved c =
-    let d = c in
     let a = c.args in
     let l = c.loop-k in
+    let none : number_at a.n a.period.now a.c1.now a.a.now a.c2.now (arrivals_of a.flat.now a.count) l.k ≡ 0 = omega (arith, c.number_at-number.ensures, c.if-number-gt0.false) in
+    let fine_here = passed a.n a.period.now a.c1.now a.a.now a.c2.now a.flat.now a.count l.k c.loop-k-test.true none in
     let h = arrival_at_lem a.flat.now a.count l.k (omega arith) in (
       omega arith,
       simp length-set l.invariant.1,
-      below_more _ _ l.invariant.2 (number d),
-      kept_more (arrivals_of a.flat.now a.count) a.n l.k l.last (arrival_in a.flat.now l.k) h (passed d).row (omega arith) (passed d).tick.0 l.invariant.3,
+      below_more _ _ l.invariant.2 none,
+      kept_more (arrivals_of a.flat.now a.count) a.n l.k l.last (arrival_in a.flat.now l.k) h fine_here.row (omega arith) fine_here.tick.0 l.invariant.3,
     )
 
 pub returns : goal.returns

@@ -15,7 +15,7 @@ returns-then-flat-next c =
     rw (lt-ltb _ _ s.if-next-count.false, is_of_by _ _ _ _ _ s.if-next-count.false, ne_eqb _ _ c.if-flat-next.true)
 
 pub overflow_cast-result : goal.overflow_cast-result
-overflow_cast-result c = omega (arith, c.shared_slice_known-2-1.given (5 * c.args.next + 1))
+overflow_cast-result c = omega (arith, c.type_inv.flat (5 * c.args.next + 1))
 
 pub returns : goal.returns
 returns c =

@@ -1,135 +1,101 @@
 -- `arrivals::number_at` meets its contract. Each return has the tests that led there.
-use Prim.Native.Nat.{ℕ, suc, ◌+◌, ◌-◌, ◌*◌, ◌≤◌}
+use Prim.Native.Nat.{ℕ, suc, ◌+◌, ◌-◌, ◌*◌, ◌≤◌, ◌<◌}
 use mathlib.Core.Bool.{true≢false}
-use mathlib.Core.Logic.{⊎_elim}
+use mathlib.Core.List.{List}
 use mathlib.Core.Path.{◌≡◌, sym, ◌∙◌, ap}
 use native.Mathlib.Omega.{arith}
-use borrow.Author.Rules.{rules}
 use borrow.Author.Tests.{ltb-true, ltb-false}
 use lib.ListN.{get_or}
-use Rattle.arrivals.specs.Arrival.{arrival_in, arrivals_of}
+use Rattle.arrivals.specs.Arrival.{Arrival, arrival_in, arrivals_of}
 use Rattle.arrivals.specs.Check.{last_of}
 use Rattle.arrivals.proofs.Flat.{arrival_at_lem}
 use Rattle.arrivals.proofs.Fine.{RowFine, TickFine, LengthsFine, number_15, number_16, number_17, number_18, number_none}
+use Rattle.arrivals.proofs.number_at.Goals.{then-row-eq0-via-then-row-eq0, then-row-eq0-via-else-row-eq0+then-row-n}
+use Rattle.arrivals.proofs.number_at.Goals.{then-tick-ge1000000-via-then-tick-ge1000000, then-tick-ge1000000-via-else-tick-ge1000000+then-disordered}
+use Rattle.arrivals.proofs.number_at.Goals.{then-flat-at-via-then-flat-at, then-flat-at-via-else-flat-at+then-flat-at-2, then-flat-at-via-else-flat-at+else-flat-at-2+then-flat-at-3}
+use Rattle.arrivals.proofs.number_at.Goals.{else-mark-gt0-via-then-mark-gt0+else-tick-mark, else-mark-gt0-via-else-mark-gt0}
 use Rattle.arrivals.proofs.number_at.Goals as goal
 
--- past the first test the row is one of 1 to n
-row_fine : (c : tie.Else2) → let a = c.before.before.before.before.before.args in RowFine a.n (arrival_in a.flat.now a.k)
-unfolding arrival_in
-row_fine c = (omega (arith, c.before.if1.false), ltb-false _ _ c.if2.false)
-
--- past the second one the tick is in order
-tick_fine : (c : tie.Else4) → let a = c.before.before.before.before.before.before.before.before.args in TickFine (arrivals_of a.flat.now a.count) a.k (arrival_in a.flat.now a.k)
-unfolding arrival_in
-tick_fine c = (omega (arith, c.before.before.if3.false), sym c.before.disordered.ensures ∙ c.if4.false)
-
--- past the third one the lengths are the table's at most
-lengths_fine : (c : tie.Else7) → let a = c.before.before.before.before.before.before.before.before.before.before.before.before.before.before.before.before.before.args in LengthsFine a.c1.now a.a.now a.c2.now (arrival_in a.flat.now a.k)
-unfolding arrival_in
-lengths_fine c = (omega (arith, c.before.before.before.before.before.before.if5.false), omega (arith, ltb-false), omega (arith, ltb-false))
-
--- the period and the mark that are kept for the row
-kept : (c : tie.Else2) →
-    let a = c.before.before.before.before.before.args in
-    let r = (arrival_in a.flat.now a.k).row in
-    (get_or a.period.now (r - 1) 0 ≤ 1000000) × (get_or a.last.now (r - 1) 0 ≤ 1000000) × (get_or a.last.now (r - 1) 0 ≡ last_of (arrivals_of a.flat.now a.count) r a.k)
-kept c =
-    let a = c.before.before.before.before.before.args in
-    let r = (arrival_in a.flat.now a.k).row in
-    let f = row_fine c in
+-- the period and the mark that are kept for a row
+kept : (n k r : ℕ) (periods marks : List ℕ) (xs : List Arrival) → ((i : ℕ) → i < n → (get_or periods i 0 ≤ 1000000) × (get_or marks i 0 ≤ 1000000) × (get_or marks i 0 ≡ last_of xs (suc i) k)) → 1 ≤ r → r ≤ n →
+    (get_or periods (r - 1) 0 ≤ 1000000) × (get_or marks (r - 1) 0 ≤ 1000000) × (get_or marks (r - 1) 0 ≡ last_of xs r k)
+kept n k r periods marks xs h s l =
     let q : suc (r - 1) ≡ r = omega arith in
-    let p = c.before.before.before.before.before.requires.4 (r - 1) (omega arith) in
-    (p.0, p.1, p.2 ∙ ap (λ (x : ℕ). last_of (arrivals_of a.flat.now a.count) x a.k) q)
+    let p = h (r - 1) (omega arith) in
+    (p.0, p.1, p.2 ∙ ap (λ (x : ℕ). last_of xs x k) q)
 
 pub overflow_cast-row : goal.overflow_cast-row
-overflow_cast-row c = omega (arith, c.shared_slice_known-3-1.given (5 * c.args.k + 1))
+overflow_cast-row c = omega (arith, c.type_inv.flat (5 * c.args.k + 1))
 
 pub returns-then-row-eq0 : goal.returns-then-row-eq0
 unfolding arrival_in
 returns-then-row-eq0 c =
-    let s = c in
+    let a = c.args in
     sym
-    (number_15 _ _ _ _ _ _ _ _ (arrival_at_lem s.args.flat.now s.args.count s.args.k s.requires.0)
-    (λ r. ⊎_elim (λ w. omega arith) (λ w. omega (arith, ltb-true)) c.then-row-eq0.branch))
+    (number_15 _ _ _ _ _ _ _ _ (arrival_at_lem a.flat.now a.count a.k c.requires.0)
+    (λ r.
+    elim c.then-row-eq0.branch [
+      then-row-eq0-via-then-row-eq0 w ↦ omega (arith, w.if-row-eq0.true, r.0)
+    | then-row-eq0-via-else-row-eq0+then-row-n w ↦ omega (arith, w.if-row-n.true, r.1)
+    ]))
 
 pub returns-then-tick-ge1000000 : goal.returns-then-tick-ge1000000
 unfolding arrival_in
 returns-then-tick-ge1000000 c =
-    let b = c in
-    let s = b in
+    let a = c.args in
     sym
-    (number_16 _ _ _ _ _ _ _ _ (arrival_at_lem s.args.flat.now s.args.count s.args.k s.requires.0) (row_fine b)
-    (λ t. ⊎_elim (λ w. omega arith) (λ w. true≢false (sym w.2.taken ∙ w.1.ensures ∙ t.1)) c.then-tick-ge1000000.branch))
-
-pub offset_bounds-c1-i : goal.offset_bounds-c1-i
-offset_bounds-c1-i c = omega (arith, ltb-false)
-
-pub bounds-c1-i : goal.bounds-c1-i
-bounds-c1-i c = omega (arith, ltb-false)
-
-pub offset_bounds-a-i : goal.offset_bounds-a-i
-offset_bounds-a-i c = omega (arith, ltb-false)
-
-pub bounds-a-i : goal.bounds-a-i
-bounds-a-i c = omega (arith, ltb-false)
-
-pub offset_bounds-c2-i : goal.offset_bounds-c2-i
-offset_bounds-c2-i c = omega (arith, ltb-false)
-
-pub bounds-c2-i : goal.bounds-c2-i
-bounds-c2-i c = omega (arith, ltb-false)
+    (number_16 _ _ _ _ _ _ _ _ (arrival_at_lem a.flat.now a.count a.k c.requires.0) (omega (arith, c.if-row-eq0.false), omega (arith, c.if-row-n.false))
+    (λ t.
+    elim c.then-tick-ge1000000.branch [
+      then-tick-ge1000000-via-then-tick-ge1000000 w ↦ omega (arith, w.if-tick-ge1000000.true, t.0)
+    | then-tick-ge1000000-via-else-tick-ge1000000+then-disordered w ↦ true≢false (sym w.if-disordered.true ∙ w.disordered.ensures ∙ t.1)
+    ]))
 
 pub returns-then-flat-at : goal.returns-then-flat-at
 unfolding arrival_in
 returns-then-flat-at c =
-    let d = c in
-    let b = d in
-    let s = b in
+    let a = c.args in
     sym
-    (number_17 _ _ _ _ _ _ _ _ (arrival_at_lem s.args.flat.now s.args.count s.args.k s.requires.0) (row_fine b) (tick_fine d)
-    (λ l. ⊎_elim (λ w. omega arith) (⊎_elim (λ w. omega (arith, ltb-true)) (λ w. omega (arith, ltb-true))) c.then-flat-at.branch))
-
-pub offset_bounds-last-i : goal.offset_bounds-last-i
-offset_bounds-last-i c = omega (arith, ltb-false)
-
-pub bounds-last-i : goal.bounds-last-i
-bounds-last-i c = omega (arith, ltb-false)
-
-pub offset_bounds-period-i : goal.offset_bounds-period-i
-offset_bounds-period-i c = omega (arith, ltb-false)
-
-pub bounds-period-i : goal.bounds-period-i
-bounds-period-i c = omega (arith, ltb-false)
+    (number_17 _ _ _ _ _ _ _ _ (arrival_at_lem a.flat.now a.count a.k c.requires.0)
+    (omega (arith, c.if-row-eq0.false), omega (arith, c.if-row-n.false)) (omega (arith, c.if-tick-ge1000000.false), sym c.disordered.ensures ∙ c.if-disordered.false)
+    (λ l.
+    elim c.then-flat-at.branch [
+      then-flat-at-via-then-flat-at w ↦ omega (arith, w.if-flat-at.true, l.0)
+    | then-flat-at-via-else-flat-at+then-flat-at-2 w ↦ omega (arith, w.if-flat-at-2.true, l.1)
+    | then-flat-at-via-else-flat-at+else-flat-at-2+then-flat-at-3 w ↦ omega (arith, w.if-flat-at-3.true, l.2)
+    ]))
 
 pub overflow_add-mark : goal.overflow_add-mark
-unfolding arrival_in
-overflow_add-mark c = omega (arith, kept c)
+overflow_add-mark c =
+    let a = c.args in
+    let m = kept a.n a.k (get_or a.flat.now (5 * a.k + 1) 0) a.period.now a.last.now (arrivals_of a.flat.now a.count) c.requires.4 (omega (arith, c.if-row-eq0.false)) c.if-row-n.false in
+    omega (arith, m.0, m.1)
 
 pub returns-then-tick-mark : goal.returns-then-tick-mark
 unfolding arrival_in
 returns-then-tick-mark c =
-    let l = c in
-    let d = l in
-    let b = d in
-    let s = b in
-    let m = kept b in
+    let a = c.args in
+    let m = kept a.n a.k (get_or a.flat.now (5 * a.k + 1) 0) a.period.now a.last.now (arrivals_of a.flat.now a.count) c.requires.4 (omega (arith, c.if-row-eq0.false)) c.if-row-n.false in
     sym
-    (number_18 _ _ _ _ _ _ _ _ (arrival_at_lem s.args.flat.now s.args.count s.args.k s.requires.0) (row_fine b) (tick_fine d) (lengths_fine l)
-    (λ p. omega (arith, p (omega (arith, c.else-mark-gt0.true)), ltb-true)))
+    (number_18 _ _ _ _ _ _ _ _ (arrival_at_lem a.flat.now a.count a.k c.requires.0)
+    (omega (arith, c.if-row-eq0.false), omega (arith, c.if-row-n.false)) (omega (arith, c.if-tick-ge1000000.false), sym c.disordered.ensures ∙ c.if-disordered.false)
+    (omega (arith, c.if-flat-at.false), omega (arith, c.if-flat-at-2.false), omega (arith, c.if-flat-at-3.false))
+    (λ p. omega (arith, m.2, c.if-tick-mark.true, p (omega (arith, m.2, c.if-mark-gt0.true)))))
 
 pub returns : goal.returns
 unfolding arrival_in
 returns c =
-    let l = c in
-    let d = l in
-    let b = d in
-    let s = b in
-    let m = kept b in
+    let a = c.args in
+    let m = kept a.n a.k (get_or a.flat.now (5 * a.k + 1) 0) a.period.now a.last.now (arrivals_of a.flat.now a.count) c.requires.4 (omega (arith, c.if-row-eq0.false)) c.if-row-n.false in
     sym
-    (number_none _ _ _ _ _ _ _ _ (arrival_at_lem s.args.flat.now s.args.count s.args.k s.requires.0)
+    (number_none _ _ _ _ _ _ _ _ (arrival_at_lem a.flat.now a.count a.k c.requires.0)
     (record {
-      row = row_fine b;
-      tick = tick_fine d;
-      lengths = lengths_fine l;
-      period = λ z. ⊎_elim (λ w. omega (arith, ltb-false)) (λ w. absurd (omega arith)) c.else-mark-gt0.branch;
+      row = (omega (arith, c.if-row-eq0.false), omega (arith, c.if-row-n.false));
+      tick = (omega (arith, c.if-tick-ge1000000.false), sym c.disordered.ensures ∙ c.if-disordered.false);
+      lengths = (omega (arith, c.if-flat-at.false), omega (arith, c.if-flat-at-2.false), omega (arith, c.if-flat-at-3.false));
+      period = λ z.
+        elim c.else-mark-gt0.branch [
+          else-mark-gt0-via-then-mark-gt0+else-tick-mark w ↦ omega (arith, m.2, w.if-tick-mark.false)
+        | else-mark-gt0-via-else-mark-gt0 w ↦ absurd (omega (arith, m.2, z, w.if-mark-gt0.false))
+        ];
     }))
