@@ -1,0 +1,8 @@
+-- `listing::put_plan_line` meets its contract.
+use borrow.Author.Rules.{rules}
+use Rattle.listing.specs.Listing.{plan_line}
+use Rattle.listing.proofs.put_plan_line.Goals as goal
+
+pub returns : goal.returns
+unfolding plan_line
+returns c = c.put_line.ensures

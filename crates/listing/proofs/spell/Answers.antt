@@ -1,0 +1,40 @@
+-- `listing::spell` meets its contract. The loop's invariant: the digits of `rest` in front of those that are stored are the digits of x, and `rest` has at most as many digits as there is room.
+use Prim.Native.Nat.{suc, ◌-◌, ◌^◌, ◌≤◌, ◌<◌}
+use mathlib.Core.List.{[]}
+use mathlib.Core.Path.{◌≡◌, sym, ◌∙◌}
+use native.Mathlib.Omega.{arith}
+use borrow.Author.Rules.{rules}
+use lib.ListN.{length, drop, length-set, drop_of_length-le}
+use Rattle.listing.proofs.Text.{in_front, spelled_more, spelled_last, shorter}
+use Rattle.listing.specs.Text.{spelled, decimal}
+use Rattle.listing.proofs.spell.Goals as goal
+
+pub loop-rest-init : goal.loop-rest-init
+unfolding decimal
+loop-rest-init c =
+    let n : length c.no_digits-places.result ≤ 10 = omega (arith, c.no_digits-places.ensures) in
+    let e : drop 10 c.no_digits-places.result ≡ [] = drop_of_length-le c.no_digits-places.result n in
+    (omega arith, omega arith, c.no_digits-places.ensures, omega arith, rw e)
+
+pub overflow_sub-from : goal.overflow_sub-from
+overflow_sub-from c =
+    let l = c.loop-rest in
+    omega (arith, (shorter l.from l.rest l.invariant.3 (omega arith)).0)
+
+pub bounds-places-from : goal.bounds-places-from
+bounds-places-from c =
+    let l = c.loop-rest in
+    omega arith
+
+pub loop-rest-preserved : goal.loop-rest-preserved
+loop-rest-preserved c =
+    let l = c.loop-rest in
+    let h = shorter l.from l.rest l.invariant.3 (omega arith) in
+    let d = in_front l.places l.from c.digit.result l.invariant.0 (omega arith) in
+    (omega arith, omega arith, length-set l.places (l.from - 1) c.digit.result ∙ l.invariant.2, h.1, rw (d, c.digit.ensures) (l.invariant.4 ∙ spelled_more l.rest (drop l.from l.places) (omega arith)))
+
+pub returns : goal.returns
+returns c =
+    let l = c.loop-rest in
+    let d = in_front l.places l.from c.digit-2.result l.invariant.0 (omega arith) in
+    (length-set l.places (l.from - 1) c.digit-2.result ∙ l.invariant.2, omega arith, rw (d, c.digit-2.ensures) (sym (l.invariant.4 ∙ spelled_last l.rest (drop l.from l.places) (omega arith))))

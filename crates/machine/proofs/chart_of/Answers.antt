@@ -1,0 +1,49 @@
+-- `machine::chart_of` meets its contract.
+use Prim.Native.Nat.{ℕ}
+use mathlib.Core.Path.{◌≡◌, ◌∙◌}
+use mathlib.Core.Bool.{true, false}
+use mathlib.Core.List.{List}
+use mathlib.Core.Logic.{⊎_elim}
+use borrow.Author.Rules.{rules}
+use Rattle.lists.specs.Tab.{blank}
+use Rattle.table.specs.declared.Table.{Table}
+use Rattle.plan.specs.declared.Plan.{Plan}
+use Rattle.plan.specs.Tasks.{of_resource}
+use Rattle.machine.specs.Chart.{chart, threes, locks_of, tops_of, chart_of}
+use Rattle.machine.proofs.chart_of.Goals as goal
+
+-- the columns together
+made : (t : Table) (p : Plan) (locks top bounds homes : List ℕ) → locks ≡ locks_of t p → top ≡ tops_of t → bounds ≡ threes p.d1 p.section p.d2 t.n → homes ≡ threes p.processor locks p.processor t.n → chart t.n t.m bounds homes t.rank top ≡ chart_of t p
+unfolding chart_of
+made t p locks top bounds homes e f g h = rw (h, g, f, e)
+
+-- the ceilings under NPP, and under PCP
+none : (t : Table) (top : List ℕ) → top ≡ blank 64 0 → t.npp ≡ true → top ≡ tops_of t
+unfolding tops_of
+none t top e h = e ∙ rw h
+
+ceilings : (t : Table) (top : List ℕ) → top ≡ of_resource t.ceiling t.resource t.n → t.npp ≡ false → top ≡ tops_of t
+unfolding tops_of
+ceilings t top e h = e ∙ rw h
+
+pub of_resource-locks-requires : goal.of_resource-locks-requires
+of_resource-locks-requires c =
+    let s = c in
+    (s.requires.rows.1, λ k h. (s.requires.tasks k h).resource)
+
+pub of_resource-tops-requires : goal.of_resource-tops-requires
+of_resource-tops-requires c =
+    let s = c in
+    (s.requires.rows.1, λ k h. (s.requires.tasks k h).resource)
+
+pub returns : goal.returns
+returns c =
+    let a = c.args in
+    let joined = c.if-t in
+    let top =
+    ⊎_elim
+    (λ w. none a.t joined.top (w.2 ∙ w.1.ensures) w.0.taken)
+    (λ w. ceilings a.t joined.top (w.1 ∙ c.of_resource-tops.ensures) w.0.left)
+    joined.branch
+    in
+    made a.t a.p c.of_resource-locks.result joined.top c.interleaved.result c.interleaved-2.result c.of_resource-locks.ensures top c.interleaved.ensures c.interleaved-2.ensures

@@ -1,0 +1,14 @@
+-- `machine::interleaved` meets its contract: the numbers of the first i rows are written.
+use Prim.Native.Nat.{◌-◌, ◌≤◌}
+use mathlib.Core.Path.{◌∙◌, sym, ◌≡◌}
+use native.Mathlib.Omega.{arith}
+use borrow.Author.Rules.{rules}
+use Rattle.machine.specs.Chart.{threes}
+use Rattle.machine.proofs.Threes.{threes_none, threes_more, length-threes}
+use Rattle.machine.proofs.interleaved.Given as goal
+
+abbrev pub invariant-loop-i : goal.invariant-loop-i
+invariant-loop-i l = (l.i ≤ l.n) × (l.out ≡ threes l.x l.y l.z l.i)
+
+abbrev pub decreases-loop-i : goal.decreases-loop-i
+decreases-loop-i l = l.n - l.i

@@ -1,0 +1,67 @@
+-- `machine::show` meets its contract: the bytes of the first k processors are written.
+use Prim.Native.Nat.{ℕ, suc, ◌+◌, ◌*◌, ◌-◌, ◌≤◌}
+use mathlib.Core.Path.{refl, sym, ◌∙◌, ap, ◌≡◌}
+use mathlib.Core.Logic.{⊎_elim}
+use mathlib.Core.List.{◌++◌}
+use native.Mathlib.Omega.{arith}
+use native.Mathlib.Numerals.{add-one}
+use borrow.Author.Rules.{rules}
+use lib.ListN.{length-set, length, get_or, drop}
+use Rattle.lists.specs.Tab.{tab}
+use Rattle.jobs.specs.Numbers.{jobs_in}
+use Rattle.jobs.proofs.Laws.{jobs_at_lem}
+use Rattle.chain.specs.declared.Job.{Job}
+use Rattle.machine.specs.Tick.{kind_of, byte_of}
+use Rattle.machine.proofs.Served.{byte_none, byte_runs, write_next, all_written}
+use Rattle.machine.proofs.show.Goals as goal
+
+-- `machine::show` meets its contract. The loop's invariant: the bytes of the first k processors are written.
+
+pub loop-k-init : goal.loop-k-init
+unfolding tab
+loop-k-init c = search rules
+
+pub overflow_cast-i : goal.overflow_cast-i
+overflow_cast-i c = omega (arith, c.requires.2 (c.loop-k.k + 1))
+
+pub job_at-x-requires : goal.job_at-x-requires
+job_at-x-requires c =
+    let s = c in
+    (omega (arith, s.requires.2 (c.loop-k.k + 1)), s.requires.0)
+
+pub kind_of-requires : goal.kind_of-requires
+kind_of-requires c =
+    let s = c in
+    let row = get_or s.args.picked.now (c.loop-k.k + 1) 0 in
+    rw c.job_at-x.ensures (s.requires.3 (row - 1) (omega (arith, s.requires.2 (c.loop-k.k + 1)))).part
+
+pub overflow_add-byte : goal.overflow_add-byte
+overflow_add-byte c = omega (arith, c.requires.2 (c.loop-k.k + 1))
+
+pub overflow_cast-lane : goal.overflow_cast-lane
+overflow_cast-lane c =
+    let p = c.requires.2 (c.loop-k.k + 1) in
+    ⊎_elim (λ w. omega (arith, p, w.3, w.2.ensures.1)) (λ w. omega (arith, w.1)) c.if-row-gt0.branch
+
+pub loop-k-preserved : goal.loop-k-preserved
+loop-k-preserved c =
+    let s = c in
+    let l = c.loop-k in
+    let js = jobs_in s.args.jobs.now in
+    let row = get_or s.args.picked.now (l.k + 1) 0 in
+    let x = jobs_at_lem s.args.jobs.now (row - 1) (omega (arith, s.requires.2 (l.k + 1))) in
+    let byte : c.if-row-gt0.byte ≡ byte_of js row =
+    ⊎_elim
+    (λ w. w.3 ∙ ap (λ (r : ℕ). r * 64 + (row - 1)) (w.2.ensures.0 ∙ ap (λ (y : Job). kind_of y.place) (w.1.ensures ∙ sym x)) ∙ byte_runs js row w.0.taken)
+    (λ w. w.1 ∙ byte_none js row w.0.left)
+    c.if-row-gt0.branch
+    in
+    (omega arith, refl, simp length-set l.invariant.2, write_next (λ q. byte_of js (get_or s.args.picked.now (suc q) 0)) s.args.lane.now l.k l.lane l.invariant.3 0 c.if-row-gt0.byte (omega arith) (rw (add-one l.k) at byte))
+
+pub shape_of-lane : goal.shape_of-lane
+shape_of-lane c = c.loop-k.invariant.2
+
+pub returns : goal.returns
+returns c =
+    let a = c.args in
+    all_written (λ q. byte_of (jobs_in a.jobs.now) (get_or a.picked.now (suc q) 0)) a.lane.now c.loop-k.k c.loop-k.lane c.loop-k.invariant.3 (omega arith)

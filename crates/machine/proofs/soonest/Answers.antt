@@ -1,0 +1,24 @@
+-- `machine::soonest` meets its contract. The loop's invariant: the tick is the first of the next releases of the rows passed.
+use Prim.Native.Nat.{ℕ, ◌-◌, ◌≤◌}
+use mathlib.Core.Path.{◌≡◌, refl, sym, ◌∙◌, ap}
+use mathlib.Core.Logic.{⊎_elim}
+use native.Mathlib.Omega.{arith}
+use borrow.Author.Rules.{rules}
+use Rattle.machine.specs.Good.{soonest_of}
+use Rattle.machine.proofs.Dues.{soonest_first, soonest_kept}
+use Rattle.machine.proofs.soonest.Goals as goal
+
+pub loop-i-init : goal.loop-i-init
+unfolding soonest_of
+loop-i-init c = (omega arith, refl)
+
+pub loop-i-preserved : goal.loop-i-preserved
+loop-i-preserved c =
+    let l = c.loop-i in
+    let due = c.args.due.now in
+    (omega arith, ⊎_elim (λ w. w.1 ∙ sym (soonest_first due l.i (omega (arith, w.0.taken, l.invariant.1)))) (λ w. w.1 ∙ l.invariant.1 ∙ sym (soonest_kept due l.i (omega (arith, w.0.left, l.invariant.1)))) c.if-d-tick.branch)
+
+pub returns : goal.returns
+returns c =
+    let e : c.loop-i.i ≡ c.args.n = omega (arith, c.loop-i.invariant.0) in
+    c.loop-i.invariant.1 ∙ ap (λ (k : ℕ). soonest_of k c.args.due.now) e
