@@ -10,6 +10,7 @@ use Rattle.table.specs.declared.Table.{Table}
 use Rattle.plan.specs.declared.Plan.{Plan}
 use Rattle.plan.specs.Tasks.{of_resource}
 use Rattle.machine.specs.Chart.{chart, threes, locks_of, tops_of, chart_of}
+use Rattle.machine.proofs.chart_of.Goals.{then-t, else-t}
 use Rattle.machine.proofs.chart_of.Goals as goal
 
 -- the columns together
@@ -40,10 +41,10 @@ pub returns : goal.returns
 returns c =
     let a = c.args in
     let joined = c.if-t in
-    let top =
-    ⊎_elim
-    (λ w. none a.t joined.top (w.2 ∙ w.1.ensures) w.0.taken)
-    (λ w. ceilings a.t joined.top (w.1 ∙ c.of_resource-tops.ensures) w.0.left)
-    joined.branch
+    let top : joined.top ≡ tops_of a.t =
+      elim joined.branch [
+        then-t w ↦ none a.t joined.top (w.top-is ∙ w.no_column-top.ensures) w.if-t.true
+      | else-t w ↦ ceilings a.t joined.top (w.top-is ∙ c.of_resource-tops.ensures) w.if-t.false
+      ]
     in
     made a.t a.p c.of_resource-locks.result joined.top c.interleaved.result c.interleaved-2.result c.of_resource-locks.ensures top c.interleaved.ensures c.interleaved-2.ensures

@@ -7,8 +7,6 @@ use Rattle.machine.specs.Chart.{threes}
 use Rattle.machine.proofs.Threes.{threes_none, threes_more, length-threes}
 use Rattle.machine.proofs.interleaved.Goals as goal
 
--- `machine::interleaved` meets its contract. The loop's invariant: the first i rows are written.
-
 pub loop-i-init : goal.loop-i-init
 loop-i-init c = (search rules, c.no_threes-out.ensures ∙ sym (threes_none _ _ _))
 
@@ -23,7 +21,7 @@ put_three-requires c = (search rules, rw c.loop-i.invariant.1 (length-threes _ _
 pub loop-i-preserved : goal.loop-i-preserved
 loop-i-preserved c =
     let a = c.args in
-    (search rules, threes_more a.x.now a.y.now a.z.now c.loop-i.i c.loop-i.out c.put_three.new.0 c.loop-i.invariant.1 c.put_three.ensures)
+    (search rules, threes_more a.x.now a.y.now a.z.now c.loop-i.i c.loop-i.out c.put_three.new.out c.loop-i.invariant.1 c.put_three.ensures)
 
 pub returns : goal.returns
 returns c =

@@ -10,7 +10,7 @@ use Rattle.machine.proofs.kind_of.Goals as goal
 
 pub returns-in_default : goal.returns-in_default
 unfolding kind_of
-returns-in_default c = rests (λ p. (0 ≡ kind_of p) × (0 ≤ 3)) (omega arith) (λ u j. omega arith) c.args.p c.in_default.keys2
+returns-in_default c = rests (λ p. (0 ≡ kind_of p) × (0 ≤ 3)) (omega arith) (λ u j. omega arith) c.args.p c.in_default.not-Running
 
 pub overflow_add-result : goal.overflow_add-result
 overflow_add-result c = omega (arith, part_small c.args.p c.in-Running.part c.in-Running.left c.requires c.in-Running.is)

@@ -28,7 +28,7 @@ pub returns-in_default : goal.returns-in_default
 unfolding noted_at
 returns-in_default c =
     let a = c.args in
-    rests (λ p. a.worst.now ≡ noted_at a.bounds.now a.t a.i a.x p a.worst.now) refl (λ u j. refl) a.x.place c.in_default.keys2
+    rests (λ p. a.worst.now ≡ noted_at a.bounds.now a.t a.i a.x p a.worst.now) refl (λ u j. refl) a.x.place c.in_default.not-Running
 
 pub returns-then-left-gt1 : goal.returns-then-left-gt1
 returns-then-left-gt1 c =

@@ -1,5 +1,5 @@
 -- `machine::release_each` meets its contract: the first i rows have their releases, none of them too early.
-use Prim.Native.Nat.{◌-◌, ◌≤◌}
+use Prim.Native.Nat.{ℕ, ◌-◌, ◌≤◌}
 use mathlib.Core.Path.{sym, ◌∙◌, ◌≡◌}
 use mathlib.Core.Bool.{Bool, true, false, ◌&&◌}
 use mathlib.Core.Logic.{⊎_elim}
@@ -8,12 +8,12 @@ use native.Mathlib.Nat.{add-zero}
 use borrow.Author.Rules.{rules}
 use lib.Dec.{ltb}
 use lib.ListN.{length}
+use mathlib.Core.List.{List}
 use Rattle.arrivals.specs.Arrival.{is_of, arrivals_of}
 use Rattle.arrivals.proofs.Flat.{length_arrivals}
 use Rattle.machine.proofs.Releasing.{stands, Went-on, started, good_here, is_late_lem, goes_on, stays, all_in}
+use Rattle.machine.proofs.release_each.Goals.{then-came+else-release_row, else-came+then-due-i+else-release_row-2, else-came+else-due-i}
 use Rattle.machine.proofs.release_each.Goals as goal
-
--- `machine::release_each` meets its contract. The loop's invariant: the first i rows have their releases, none of them too early, and the arrivals have come to row i.
 
 pub loop-i-init : goal.loop-i-init
 loop-i-init c =
@@ -26,10 +26,8 @@ comes-came-requires c =
     (omega (arith, s.requires.2.few), s.requires.3, s.requires.4)
 
 -- whether an arrival comes to the row
-here : (c : tie.After-comes invariant-loop decreases-loop) (came : Bool) → c.comes.result ≡ came → let a = c.before.before.before.before.before.before.args in let xs = arrivals_of a.flat.now a.count in let l = c.before.before.loop in came ≡ (ltb l.at (length xs) && is_of xs l.i a.t l.at)
-here c came e =
-    let a = c.before.before.before.before.before.before.args in
-    sym e ∙ rw (length_arrivals a.flat.now a.count) c.comes.ensures
+here : (flat : List ℕ) (count at i t : ℕ) (r came : Bool) → r ≡ (ltb at count && is_of (arrivals_of flat count) i t at) → r ≡ came → came ≡ (ltb at (length (arrivals_of flat count)) && is_of (arrivals_of flat count) i t at)
+here flat count at i t r came e f = sym f ∙ rw (length_arrivals flat count) e
 
 pub lens_at-lens-requires : goal.lens_at-lens-requires
 lens_at-lens-requires c =
@@ -48,7 +46,7 @@ pub shape_of-jobs-then-release_row : goal.shape_of-jobs-then-release_row
 shape_of-jobs-then-release_row c = c.release_row.ensures.3 ∙ sym c.requires.2.whole
 
 pub shape_of-due-then-release_row : goal.shape_of-due-then-release_row
-shape_of-due-then-release_row c = omega (arith, c.release_row.auto.1.0, c.loop-i.invariant.1.column, c.requires.2.column)
+shape_of-due-then-release_row c = omega (arith, c.release_row.auto.due, c.loop-i.invariant.1.column, c.requires.2.column)
 
 pub returns-then-release_row : goal.returns-then-release_row
 returns-then-release_row c =
@@ -56,7 +54,7 @@ returns-then-release_row c =
     let w = c.loop-i.invariant.1 in
     let r = c.release_row in
     let b = rw c.lens_at-lens.ensures at r.ensures.2 in
-    (r.ensures.3, omega (arith, r.auto.1.0, w.column), is_late_lem s.requires.2 s.requires.5 w (omega arith) true (here c true c.if-came.true) (sym c.if-release_row.true ∙ b), λ e. absurd (omega arith))
+    (r.ensures.3, omega (arith, r.auto.due, w.column), is_late_lem s.requires.2 s.requires.5 w (omega arith) true (here c.args.flat.now c.args.count c.loop-i.at c.loop-i.i c.args.t c.comes-came.result true c.comes-came.ensures c.if-came.true) (sym c.if-release_row.true ∙ b), λ e. absurd (omega arith))
 
 pub overflow_add-at : goal.overflow_add-at
 overflow_add-at c =
@@ -82,14 +80,14 @@ pub shape_of-jobs-then-release_row-2 : goal.shape_of-jobs-then-release_row-2
 shape_of-jobs-then-release_row-2 c = c.release_row-then-due-i.ensures.3 ∙ sym c.requires.2.whole
 
 pub shape_of-due-then-release_row-2 : goal.shape_of-due-then-release_row-2
-shape_of-due-then-release_row-2 c = omega (arith, c.release_row-then-due-i.auto.1.0, c.loop-i.invariant.1.column, c.requires.2.column)
+shape_of-due-then-release_row-2 c = omega (arith, c.release_row-then-due-i.auto.due, c.loop-i.invariant.1.column, c.requires.2.column)
 
 pub returns-then-release_row-2 : goal.returns-then-release_row-2
 returns-then-release_row-2 c =
     let s = c in
     let w = c.loop-i.invariant.1 in
     let r = c.release_row-then-due-i in
-    (r.ensures.3, omega (arith, r.auto.1.0, w.column), is_late_lem s.requires.2 s.requires.5 w (omega arith) false (here c false c.if-came.false) (sym c.if-release_row-2.true ∙ r.ensures.2), λ e. absurd (omega arith))
+    (r.ensures.3, omega (arith, r.auto.due, w.column), is_late_lem s.requires.2 s.requires.5 w (omega arith) false (here c.args.flat.now c.args.count c.loop-i.at c.loop-i.i c.args.t c.comes-came.result false c.comes-came.ensures c.if-came.false) (sym c.if-release_row-2.true ∙ r.ensures.2), λ e. absurd (omega arith))
 
 pub loop-i-preserved : goal.loop-i-preserved
 loop-i-preserved c =
@@ -97,17 +95,16 @@ loop-i-preserved c =
     let l = c.loop-i in
     let w = l.invariant.1 in (
       omega arith,
-      ⊎_elim
-          (λ v.
-          let f = rw v.1.ensures at v.4.ensures in
-          rw (v.10, v.11, v.12) (goes_on s.requires.2 s.requires.5 w (omega arith) true (here c true v.0.taken) v.4.last.0 v.4.last.1.0 f.3 f.0 f.1 (sym v.9.left ∙ f.2)))
-          (⊎_elim
-          (λ v.
-          let f = v.5.ensures in
-          let on = goes_on s.requires.2 s.requires.5 w (omega arith) false (here c false v.0.left) v.5.last.0 v.5.last.1.0 f.3 f.0 f.1 (sym v.10.left ∙ f.2) in
-          rw (v.11, v.12, v.13) (rw (add-zero l.at) at on))
-          (λ v. rw (v.3, v.4, v.5) (stays s.requires.2 s.requires.5 w (omega arith) (here c false v.0.left) v.2.left)))
-          c.if-came.branch,
+      elim c.if-came.branch [
+        then-came+else-release_row v ↦
+          let f = rw v.lens_at-lens.ensures at v.release_row.ensures in
+          rw (v.jobs-is, v.due-is, v.at-is) (goes_on s.requires.2 s.requires.5 w (omega arith) true (here c.args.flat.now c.args.count c.loop-i.at c.loop-i.i c.args.t c.comes-came.result true c.comes-came.ensures v.if-came.true) v.release_row.new.jobs v.release_row.new.due f.3 f.0 f.1 (sym v.if-release_row.false ∙ f.2))
+      | else-came+then-due-i+else-release_row-2 v ↦
+          let f = v.release_row-then-due-i.ensures in
+          let on = goes_on s.requires.2 s.requires.5 w (omega arith) false (here c.args.flat.now c.args.count c.loop-i.at c.loop-i.i c.args.t c.comes-came.result false c.comes-came.ensures v.if-came.false) v.release_row-then-due-i.new.jobs v.release_row-then-due-i.new.due f.3 f.0 f.1 (sym v.if-release_row-2.false ∙ f.2) in
+          rw (v.jobs-is, v.due-is, v.at-is) (rw (add-zero l.at) at on)
+      | else-came+else-due-i v ↦ rw (v.jobs-is, v.due-is, v.at-is) (stays s.requires.2 s.requires.5 w (omega arith) (here c.args.flat.now c.args.count c.loop-i.at c.loop-i.i c.args.t c.comes-came.result false c.comes-came.ensures v.if-came.false) v.if-due-i.false)
+      ],
     )
 
 pub shape_of-jobs : goal.shape_of-jobs

@@ -29,7 +29,7 @@ pub returns-in_default : goal.returns-in_default
 unfolding serve_at
 returns-in_default c =
     let a = c.args in
-    rests (λ p. a.x ≡ serve_at a.picked.now a.bounds.now a.homes.now a.t a.i a.x p) refl (λ u j. refl) a.x.place c.in_default.keys2
+    rests (λ p. a.x ≡ serve_at a.picked.now a.bounds.now a.homes.now a.t a.i a.x p) refl (λ u j. refl) a.x.place c.in_default.not-Running
 
 pub bounds-homes-i : goal.bounds-homes-i
 bounds-homes-i c =

@@ -13,6 +13,7 @@ use Rattle.jobs.proofs.Laws.{jobs_at_lem}
 use Rattle.chain.specs.declared.Job.{Job}
 use Rattle.machine.specs.Tick.{kind_of, byte_of}
 use Rattle.machine.proofs.Served.{byte_none, byte_runs, write_next, all_written}
+use Rattle.machine.proofs.show.Goals.{then-row-gt0, else-row-gt0}
 use Rattle.machine.proofs.show.Goals as goal
 
 -- `machine::show` meets its contract. The loop's invariant: the bytes of the first k processors are written.
@@ -41,7 +42,10 @@ overflow_add-byte c = omega (arith, c.requires.2 (c.loop-k.k + 1))
 pub overflow_cast-lane : goal.overflow_cast-lane
 overflow_cast-lane c =
     let p = c.requires.2 (c.loop-k.k + 1) in
-    ⊎_elim (λ w. omega (arith, p, w.3, w.2.ensures.1)) (λ w. omega (arith, w.1)) c.if-row-gt0.branch
+    elim c.if-row-gt0.branch [
+      then-row-gt0 w ↦ omega (arith, p, w.byte-is, w.kind_of.ensures.1)
+    | else-row-gt0 w ↦ omega (arith, w.byte-is)
+    ]
 
 pub loop-k-preserved : goal.loop-k-preserved
 loop-k-preserved c =
@@ -51,10 +55,10 @@ loop-k-preserved c =
     let row = get_or s.args.picked.now (l.k + 1) 0 in
     let x = jobs_at_lem s.args.jobs.now (row - 1) (omega (arith, s.requires.2 (l.k + 1))) in
     let byte : c.if-row-gt0.byte ≡ byte_of js row =
-    ⊎_elim
-    (λ w. w.3 ∙ ap (λ (r : ℕ). r * 64 + (row - 1)) (w.2.ensures.0 ∙ ap (λ (y : Job). kind_of y.place) (w.1.ensures ∙ sym x)) ∙ byte_runs js row w.0.taken)
-    (λ w. w.1 ∙ byte_none js row w.0.left)
-    c.if-row-gt0.branch
+      elim c.if-row-gt0.branch [
+        then-row-gt0 w ↦ w.byte-is ∙ ap (λ (r : ℕ). r * 64 + (row - 1)) (w.kind_of.ensures.0 ∙ ap (λ (y : Job). kind_of y.place) (w.job_at-x.ensures ∙ sym x)) ∙ byte_runs js row w.if-row-gt0.true
+      | else-row-gt0 w ↦ w.byte-is ∙ byte_none js row w.if-row-gt0.false
+      ]
     in
     (omega arith, refl, simp length-set l.invariant.2, write_next (λ q. byte_of js (get_or s.args.picked.now (suc q) 0)) s.args.lane.now l.k l.lane l.invariant.3 0 c.if-row-gt0.byte (omega arith) (rw (add-one l.k) at byte))
 

@@ -6,6 +6,7 @@ use native.Mathlib.Omega.{arith}
 use borrow.Author.Rules.{rules}
 use Rattle.machine.specs.Good.{soonest_of}
 use Rattle.machine.proofs.Dues.{soonest_first, soonest_kept}
+use Rattle.machine.proofs.soonest.Goals.{then-d-tick, else-d-tick}
 use Rattle.machine.proofs.soonest.Goals as goal
 
 pub loop-i-init : goal.loop-i-init
@@ -16,7 +17,13 @@ pub loop-i-preserved : goal.loop-i-preserved
 loop-i-preserved c =
     let l = c.loop-i in
     let due = c.args.due.now in
-    (omega arith, ⊎_elim (λ w. w.1 ∙ sym (soonest_first due l.i (omega (arith, w.0.taken, l.invariant.1)))) (λ w. w.1 ∙ l.invariant.1 ∙ sym (soonest_kept due l.i (omega (arith, w.0.left, l.invariant.1)))) c.if-d-tick.branch)
+    (
+      omega arith,
+      elim c.if-d-tick.branch [
+        then-d-tick w ↦ w.tick-is ∙ sym (soonest_first due l.i (omega (arith, w.if-d-tick.true, l.invariant.1)))
+      | else-d-tick w ↦ w.tick-is ∙ l.invariant.1 ∙ sym (soonest_kept due l.i (omega (arith, w.if-d-tick.false, l.invariant.1)))
+      ],
+    )
 
 pub returns : goal.returns
 returns c =
