@@ -1,0 +1,74 @@
+-- `stretch::run_rows` meets its contract. The loop's invariant: the rows that the first q processors pick have run.
+use Prim.Native.Nat.{◌-◌, ◌≤◌}
+use mathlib.Core.Path.{◌≡◌, sym, ◌∙◌, ap}
+use mathlib.Core.Logic.{⊎_elim}
+use native.Mathlib.Omega.{arith}
+use borrow.Author.Rules.{rules}
+use lib.ListN.{length, get_or}
+use Rattle.jobs.specs.Numbers.{jobs_in}
+use Rattle.stretch.specs.Push.{Picked}
+use Rattle.stretch.proofs.Running.{picked-le, Ran, ran_start, ran_none, ready_next, ran_more, ran_jobs, ran_due}
+use Rattle.stretch.proofs.run_rows.Goals as goal
+
+pub loop-q-init : goal.loop-q-init
+loop-q-init c =
+    let s = c in
+    let a = s.args in
+    (omega arith, s.requires.3, s.requires.4, ran_start a.picked.now a.bounds.now a.homes.now a.t a.k a.jobs.now a.due.now)
+
+pub overflow_cast-row : goal.overflow_cast-row
+overflow_cast-row c =
+    let s = c in
+    let a = s.args in
+    omega (arith, picked-le a.picked.now (Picked a.homes.now (jobs_in a.jobs.now) a.t a.k) s.requires.5 c.loop-q.q (omega arith))
+
+pub run_row-requires : goal.run_row-requires
+run_row-requires c =
+    let s = c in
+    let a = s.args in
+    let l = c.loop-q in
+    let row = get_or a.picked.now l.q 0 in (
+      omega (arith, (s.requires.5 l.q (row - 1) (omega arith) (omega arith)).0),
+      s.requires.0,
+      s.requires.1,
+      s.requires.2,
+      l.invariant.1,
+      l.invariant.2,
+      ready_next l.invariant.3 s.requires.5 (row - 1) (omega arith) (omega arith),
+    )
+
+pub loop-q-preserved : goal.loop-q-preserved
+loop-q-preserved c =
+    let s = c in
+    let a = s.args in
+    let l = c.loop-q in
+    let row = get_or a.picked.now l.q 0 in (
+      omega arith,
+      ⊎_elim (λ w. ap length w.8 ∙ w.3.ensures.2) (λ w. ap length w.1 ∙ l.invariant.1) c.if-row-gt0.branch,
+      ⊎_elim (λ w. ap length w.9 ∙ w.3.kept.1.0 ∙ l.invariant.2) (λ w. ap length w.2 ∙ l.invariant.2) c.if-row-gt0.branch,
+      ⊎_elim
+          (λ w.
+          rw (w.8, w.9)
+          (ran_more l.invariant.3 s.requires.5 (row - 1) (omega arith) (omega (arith, w.0.taken)) _ l.invariant.2 w.3.ensures.0 w.3.ensures.1))
+          (λ w. rw (w.1, w.2) (ran_none l.invariant.3 w.0.left))
+          c.if-row-gt0.branch,
+    )
+
+pub shape_of-jobs : goal.shape_of-jobs
+shape_of-jobs c = c.loop-q.invariant.1 ∙ sym c.requires.3
+
+pub shape_of-due : goal.shape_of-due
+shape_of-due c = c.loop-q.invariant.2 ∙ sym c.requires.4
+
+pub returns : goal.returns
+returns c =
+    let s = c in
+    let a = s.args in
+    let l = c.loop-q in
+    let e : l.q ≡ 17 = omega arith in
+    let r = rw e at l.invariant.3 in (
+      ran_jobs r s.requires.5 s.requires.2,
+      ran_due r s.requires.5 s.requires.2,
+      l.invariant.1,
+      l.invariant.2,
+    )

@@ -1,0 +1,18 @@
+-- `stretch::run_rows` meets its contract. The loop's invariant: the rows that the first q processors pick have run.
+use Prim.Native.Nat.{◌-◌, ◌≤◌}
+use mathlib.Core.Path.{◌≡◌, sym, ◌∙◌, ap}
+use mathlib.Core.Logic.{⊎_elim}
+use native.Mathlib.Omega.{arith}
+use borrow.Author.Rules.{rules}
+use lib.ListN.{length, get_or}
+use Rattle.jobs.specs.Numbers.{jobs_in}
+use Rattle.stretch.specs.Push.{Picked}
+use Rattle.stretch.proofs.Running.{picked-le, Ran, ran_start, ran_none, ready_next, ran_more, ran_jobs, ran_due}
+use Rattle.stretch.proofs.run_rows.Given as goal
+
+abbrev pub invariant-loop-q : goal.invariant-loop-q
+invariant-loop-q l =
+    (l.q ≤ 17) × (length l.jobs ≡ 576) × (length l.due ≡ 64) × Ran l.picked l.bounds l.homes l.t l.k l.initial.jobs l.initial.due l.q l.jobs l.due
+
+abbrev pub decreases-loop-q : goal.decreases-loop-q
+decreases-loop-q l = 17 - l.q
