@@ -14,6 +14,10 @@ use Rattle.jobs.specs.Numbers.{job_in}
 use Rattle.stretch.specs.Push.{Goes}
 use Rattle.stretch.proofs.all_go_on.Given as goal
 
+-- the row that a processor picks goes on for k ticks
+abbrev pub RowGoes : List ℕ → List ℕ → List ℕ → List ℕ → ℕ → ℕ → Type 0
+RowGoes jobs picked rank top k q = (i : ℕ) → get_or picked q 0 ≡ suc i → Goes (get_or rank i 0) (get_or top i 0) k (job_in jobs i) (job_in jobs i).place
+
 abbrev pub invariant-loop-q : goal.invariant-loop-q
 invariant-loop-q l =
     (l.q ≤ 17) × (l.ticks ≤ l.most) × (1 < l.ticks → (p : ℕ) → p < l.q → RowGoes l.jobs l.picked l.rank l.top l.ticks p)

@@ -8,11 +8,11 @@ use Rattle.arrivals.proofs.Flat.{arrival_at_lem}
 use Rattle.stretch.proofs.before_arrival.Goals as goal
 
 -- the tick of an arrival is the first of its numbers
-tick-at : (flat : List ℕ) (count k s : ℕ) → k < count → s ≤ get_or flat (5 * k) 0 → s ≤ (arrival_at (arrivals_of flat count) k).tick
+tick_at : (flat : List ℕ) (count k s : ℕ) → k < count → s ≤ get_or flat (5 * k) 0 → s ≤ (arrival_at (arrivals_of flat count) k).tick
 unfolding arrival_in
-tick-at flat count k s h l = rw (arrival_at_lem flat count k h) l
+tick_at flat count k s h l = rw (arrival_at_lem flat count k h) l
 
 pub returns : goal.returns
 returns c =
     let a = c.args in
-    (c.gap.ensures.0, λ h l. tick-at a.flat.now a.count a.next (a.t + c.gap.result) l (c.gap.ensures.1 h))
+    (c.gap.ensures.0, λ h l. tick_at a.flat.now a.count a.next (a.t + c.gap.result) l (c.gap.ensures.1 h))

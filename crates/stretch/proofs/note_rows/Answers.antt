@@ -16,22 +16,23 @@ use Rattle.jobs.specs.Numbers.{job_in}
 use Rattle.machine.specs.Tick.{noted_at, noted, noted_to}
 use Rattle.stretch.specs.Push.{Ready}
 use Rattle.stretch.proofs.Running.{picked-le, push_fits, push_good}
+use Rattle.stretch.proofs.note_rows.Goals.{then-row-gt0, else-row-gt0}
 use Rattle.stretch.proofs.note_rows.Goals as goal
 
 module _ (bounds : List ℕ) (t : ℕ) (f : ℕ → Job) (picked old : List ℕ) (q : ℕ) (worst : List ℕ) (e : worst ≡ noted_to bounds t (tab 64 f) picked q old) where
   abbrev row : ℕ
   row = get_or picked (q + 1) 0
 
-  noted-next : noted bounds t (tab 64 f) row worst ≡ noted_to bounds t (tab 64 f) picked (q + 1) old
+  noted_next : noted bounds t (tab 64 f) row worst ≡ noted_to bounds t (tab 64 f) picked (q + 1) old
   unfolding noted_to
-  noted-next = rw (e, add-one q)
+  noted_next = rw (e, add-one q)
 
   -- one processor more, which runs nothing
-  noted-none : row ≤ 0 → worst ≡ noted_to bounds t (tab 64 f) picked (q + 1) old
+  noted_none : row ≤ 0 → worst ≡ noted_to bounds t (tab 64 f) picked (q + 1) old
   unfolding noted
-  noted-none n =
+  noted_none n =
       let z : 0 ≡ row = omega arith in
-      ap (λ (k : ℕ). noted bounds t (tab 64 f) k worst) z ∙ noted-next
+      ap (λ (k : ℕ). noted bounds t (tab 64 f) k worst) z ∙ noted_next
 
   -- or which runs a row
   noted_more : (x : Job) (next : List ℕ) → 0 < row → row ≤ 64 → x ≡ f (row - 1) → next ≡ noted_at bounds t (row - 1) x x.place worst → next ≡ noted_to bounds t (tab 64 f) picked (q + 1) old
@@ -39,7 +40,7 @@ module _ (bounds : List ℕ) (t : ℕ) (f : ℕ → Job) (picked old : List ℕ)
   noted_more x next h l g n =
       let z : suc (row - 1) ≡ row = omega arith in
       let d : x ≡ get_or (tab 64 f) (row - 1) no_job = g ∙ sym (get_or-tab 64 f (row - 1) no_job (omega arith)) in
-      n ∙ ap (λ (y : Job). noted_at bounds t (row - 1) y y.place worst) d ∙ ap (λ (k : ℕ). noted bounds t (tab 64 f) k worst) z ∙ noted-next
+      n ∙ ap (λ (y : Job). noted_at bounds t (row - 1) y y.place worst) d ∙ ap (λ (k : ℕ). noted bounds t (tab 64 f) k worst) z ∙ noted_next
 
 pub loop-q-init : goal.loop-q-init
 unfolding noted_to
@@ -78,11 +79,14 @@ loop-q-preserved c =
     let f : ℕ → Job = λ i. push a.t a.k (job_in a.jobs.now i) in
     let few = picked-le a.picked.now (λ q i. Ready a.t a.k (job_in a.jobs.now i)) s.requires.5 (l.q + 1) (omega arith) in (
       omega arith,
-      ⊎_elim
-          (λ w. w.7 ∙ noted_more a.bounds.now (a.t + a.k) f a.picked.now a.worst.now l.q l.worst l.invariant.1 w.2.result _ w.0.taken few (w.2.ensures ∙ ap (λ (x : Job). push a.t a.k x) w.1.ensures) w.4.ensures)
-          (λ w. w.1 ∙ noted-none a.bounds.now (a.t + a.k) f a.picked.now a.worst.now l.q l.worst l.invariant.1 w.0.left)
-          c.if-row-gt0.branch,
-      ⊎_elim (λ w. ap length w.7 ∙ w.4.kept.1.1.1.1.0 ∙ l.invariant.2) (λ w. ap length w.1 ∙ l.invariant.2) c.if-row-gt0.branch,
+      elim c.if-row-gt0.branch [
+        then-row-gt0 w ↦ w.worst-is ∙ noted_more a.bounds.now (a.t + a.k) f a.picked.now a.worst.now l.q l.worst l.invariant.1 w.push-y.result _ w.if-row-gt0.true few (w.push-y.ensures ∙ ap (λ (x : Job). push a.t a.k x) w.job_at-x.ensures) w.note.ensures
+      | else-row-gt0 w ↦ w.worst-is ∙ noted_none a.bounds.now (a.t + a.k) f a.picked.now a.worst.now l.q l.worst l.invariant.1 w.if-row-gt0.false
+      ],
+      elim c.if-row-gt0.branch [
+        then-row-gt0 w ↦ ap length w.worst-is ∙ w.note.auto.worst ∙ l.invariant.2
+      | else-row-gt0 w ↦ ap length w.worst-is ∙ l.invariant.2
+      ],
     )
 
 pub shape_of-worst : goal.shape_of-worst

@@ -8,6 +8,7 @@ use lib.ListN.{length, get_or}
 use Rattle.jobs.specs.Numbers.{jobs_in}
 use Rattle.stretch.specs.Push.{Picked}
 use Rattle.stretch.proofs.Running.{picked-le, Ran, ran_start, ran_none, ready_next, ran_more, ran_jobs, ran_due}
+use Rattle.stretch.proofs.run_rows.Goals.{then-row-gt0, else-row-gt0}
 use Rattle.stretch.proofs.run_rows.Goals as goal
 
 pub loop-q-init : goal.loop-q-init
@@ -44,14 +45,20 @@ loop-q-preserved c =
     let l = c.loop-q in
     let row = get_or a.picked.now l.q 0 in (
       omega arith,
-      ⊎_elim (λ w. ap length w.8 ∙ w.3.ensures.2) (λ w. ap length w.1 ∙ l.invariant.1) c.if-row-gt0.branch,
-      ⊎_elim (λ w. ap length w.9 ∙ w.3.kept.1.0 ∙ l.invariant.2) (λ w. ap length w.2 ∙ l.invariant.2) c.if-row-gt0.branch,
-      ⊎_elim
-          (λ w.
-          rw (w.8, w.9)
-          (ran_more l.invariant.3 s.requires.5 (row - 1) (omega arith) (omega (arith, w.0.taken)) _ l.invariant.2 w.3.ensures.0 w.3.ensures.1))
-          (λ w. rw (w.1, w.2) (ran_none l.invariant.3 w.0.left))
-          c.if-row-gt0.branch,
+      elim c.if-row-gt0.branch [
+        then-row-gt0 w ↦ ap length w.jobs-is ∙ w.run_row.ensures.2
+      | else-row-gt0 w ↦ ap length w.jobs-is ∙ l.invariant.1
+      ],
+      elim c.if-row-gt0.branch [
+        then-row-gt0 w ↦ ap length w.due-is ∙ w.run_row.auto.due ∙ l.invariant.2
+      | else-row-gt0 w ↦ ap length w.due-is ∙ l.invariant.2
+      ],
+      elim c.if-row-gt0.branch [
+        then-row-gt0 w ↦
+          rw (w.jobs-is, w.due-is)
+          (ran_more l.invariant.3 s.requires.5 (row - 1) (omega arith) (omega (arith, w.if-row-gt0.true)) _ l.invariant.2 w.run_row.ensures.0 w.run_row.ensures.1)
+      | else-row-gt0 w ↦ rw (w.jobs-is, w.due-is) (ran_none l.invariant.3 w.if-row-gt0.false)
+      ],
     )
 
 pub shape_of-jobs : goal.shape_of-jobs

@@ -25,7 +25,7 @@ picks-picked-requires c =
     let js = jobs_in a.jobs.now in
     let rr = c.release_rows-r in
     let given = rr.ensures.3 (on_time a.n a.bounds.now (brings xs) a.t js rr.result.late rr.ensures.2 c.if-r-n.false) in
-    let flat = rr.new.0 in
+    let flat = rr.new.jobs in
     (rr.ensures.0, s.requires.2.homed, places_good ch (brings xs) a.t js flat s.requires.2 s.requires.3.good (omega (arith, s.requires.0, s.requires.1)) given.0)
 
 pub show-requires : goal.show-requires
@@ -37,7 +37,7 @@ show-requires c =
     let js = jobs_in a.jobs.now in
     let rr = c.release_rows-r in
     let given = rr.ensures.3 (on_time a.n a.bounds.now (brings xs) a.t js rr.result.late rr.ensures.2 c.if-r-n.false) in
-    let flat = rr.new.0 in
+    let flat = rr.new.jobs in
     (rr.ensures.0, s.requires.8, rows-le ch (brings xs) a.t js flat s.requires.2 s.requires.3.good (omega (arith, s.requires.0, s.requires.1)) given.0 c.picks-picked.result c.picks-picked.ensures, all_places_good ch (brings xs) a.t js flat s.requires.2 s.requires.3.good (omega (arith, s.requires.0, s.requires.1)) given.0)
 
 pub ticks_behind-more-requires : goal.ticks_behind-more-requires
@@ -49,7 +49,7 @@ ticks_behind-more-requires c =
     let js = jobs_in a.jobs.now in
     let rr = c.release_rows-r in
     let given = rr.ensures.3 (on_time a.n a.bounds.now (brings xs) a.t js rr.result.late rr.ensures.2 c.if-r-n.false) in
-    let flat = rr.new.0 in
+    let flat = rr.new.jobs in
     (s.requires.2.homed.few, s.requires.0, rr.ensures.0, rr.ensures.1, s.requires.4, s.requires.5, rows-le ch (brings xs) a.t js flat s.requires.2 s.requires.3.good (omega (arith, s.requires.0, s.requires.1)) given.0 c.picks-picked.result c.picks-picked.ensures)
 
 pub note_rows-requires : goal.note_rows-requires
@@ -61,8 +61,8 @@ note_rows-requires c =
     let js = jobs_in a.jobs.now in
     let rr = c.release_rows-r in
     let given = rr.ensures.3 (on_time a.n a.bounds.now (brings xs) a.t js rr.result.late rr.ensures.2 c.if-r-n.false) in
-    let flat = rr.new.0 in
-    let dues = rr.new.1.0 in
+    let flat = rr.new.jobs in
+    let dues = rr.new.due in
     let rows = c.picks-picked.result in
     let next = rr.result.next in
     let more = c.ticks_behind-more.result in
@@ -82,8 +82,8 @@ run_rows-requires c =
     let js = jobs_in a.jobs.now in
     let rr = c.release_rows-r in
     let given = rr.ensures.3 (on_time a.n a.bounds.now (brings xs) a.t js rr.result.late rr.ensures.2 c.if-r-n.false) in
-    let flat = rr.new.0 in
-    let dues = rr.new.1.0 in
+    let flat = rr.new.jobs in
+    let dues = rr.new.due in
     let rows = c.picks-picked.result in
     let next = rr.result.next in
     let more = c.ticks_behind-more.result in
@@ -112,8 +112,8 @@ returns c =
     let js = jobs_in a.jobs.now in
     let rr = c.release_rows-r in
     let given = rr.ensures.3 (on_time a.n a.bounds.now (brings xs) a.t js rr.result.late rr.ensures.2 c.if-r-n.false) in
-    let flat = rr.new.0 in
-    let dues = rr.new.1.0 in
+    let flat = rr.new.jobs in
+    let dues = rr.new.due in
     let rows = c.picks-picked.result in
     let next = rr.result.next in
     let more = c.ticks_behind-more.result in
@@ -129,10 +129,10 @@ returns c =
       ran.ensures.3,
       sym (on_time a.n a.bounds.now (brings xs) a.t js rr.result.late rr.ensures.2 c.if-r-n.false) ∙ rr.ensures.2,
       λ e. (
-        stretched ch xs a.t a.e js flat dues rows next s.requires.1 rel more rests a.worst.now ran.new.0 noted.new.1.1.1.1.1.1.0 shown.new.1.1.0 _ ran.ensures.0 noted.ensures shown.ensures,
+        stretched ch xs a.t a.e js flat dues rows next s.requires.1 rel more rests a.worst.now ran.new.jobs noted.new.worst shown.new.lane _ ran.ensures.0 noted.ensures shown.ensures,
         omega arith,
         omega (arith, behind.0),
-        dues_after ch xs a.t a.e js flat dues rows next s.requires.1 rel more rests ran.new.0 ran.new.1.0 ran.ensures.1,
+        dues_after ch xs a.t a.e js flat dues rows next s.requires.1 rel more rests ran.new.jobs ran.new.due ran.ensures.1,
         rw (add-one more) (after ch xs a.t a.e js flat dues rows next s.requires.1 rel more rests),
       ),
     )
