@@ -21,7 +21,7 @@ use table::Table;
 
 // What the machine reads of a table and its plan: for each row the bounds and the processors of its three parts, its rank, and
 // the ceiling of its resource.
-#[derive(Drop)]
+#[derive(Clone, Copy)]
 pub struct Chart {
     pub n: usize,
     pub m: usize,

@@ -1,0 +1,53 @@
+-- `run::put_lanes` meets its contract: the lane is written k times, one behind the other.
+use Prim.Native.Nat.{ℕ, ◌+◌, ◌-◌, ◌*◌, ◌≤◌}
+use mathlib.Core.Path.{◌≡◌, refl}
+use native.Mathlib.Omega.{arith}
+use borrow.Author.Rules.{rules}
+use lib.ListN.{length}
+use lib.Seq.{sets}
+use Rattle.lists.specs.Tab.{joined}
+use Rattle.lists.proofs.Sets.{stored_length}
+use Rattle.lists.proofs.Joined.{joined_next}
+use Rattle.run.proofs.Front.{more_ticks}
+use Rattle.run.proofs.put_lanes.Goals as goal
+
+pub loop-k-init : goal.loop-k-init
+unfolding joined
+loop-k-init c = (omega arith, refl)
+
+-- the trace has room for one tick more
+room : (m at k ticks size : ℕ) → k + 1 ≤ ticks → at + m * ticks ≤ size → at + m * k + m ≤ size
+room m at k ticks size h l = omega (arith, more_ticks m k 1 ticks h)
+
+pub overflow_mul-m : goal.overflow_mul-m
+overflow_mul-m c =
+    let s = c in
+    omega (arith, room (length s.args.lane.now) s.args.at c.loop-k.k s.args.ticks (length s.args.trace.now) (omega arith) s.requires)
+
+pub overflow_add-at : goal.overflow_add-at
+overflow_add-at c =
+    let s = c in
+    omega (arith, room (length s.args.lane.now) s.args.at c.loop-k.k s.args.ticks (length s.args.trace.now) (omega arith) s.requires)
+
+pub store-requires : goal.store-requires
+store-requires c =
+    let s = c in
+    let l = c.loop-k in
+    omega (arith, room (length s.args.lane.now) s.args.at l.k s.args.ticks (length s.args.trace.now) (omega arith) s.requires, stored_length s.args.trace.now s.args.at (joined l.k (λ i. s.args.lane.now)) l.invariant.1)
+
+pub loop-k-preserved : goal.loop-k-preserved
+loop-k-preserved c =
+    let a = c.args in
+    let l = c.loop-k in
+    (omega arith, joined_next (length a.lane.now) (λ i. a.lane.now) (λ i. refl) a.trace.now a.at l.k l.invariant.1 c.store.ensures)
+
+pub shape_of-trace : goal.shape_of-trace
+shape_of-trace c =
+    let a = c.args in
+    let l = c.loop-k in
+    stored_length a.trace.now a.at (joined l.k (λ i. a.lane.now)) l.invariant.1
+
+pub returns : goal.returns
+returns c =
+    let q : c.loop-k.k ≡ c.args.ticks = omega arith in
+    rw q at c.loop-k.invariant.1
