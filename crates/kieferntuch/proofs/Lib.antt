@@ -1,5 +1,4 @@
 pub mod Planned
 pub mod Exactly
 pub mod ReadBack
-mod Slot
 mod Cases

@@ -1,0 +1,12 @@
+-- `kieferntuch::kieferntuch_run` meets its contract: a run does with the numbers of a list that was taken apart what it does with the list.
+use mathlib.Core.Path.{◌≡◌}
+use lib.ListN.{length}
+use Rattle.lists.proofs.Tab.{length-blank}
+use Rattle.table.specs.Table.{reading_of}
+use Rattle.run.proofs.Many.{from_flat}
+use Rattle.kieferntuch.proofs.kieferntuch_run.Goals as goal
+
+pub returns : goal.returns
+returns c =
+    let a = c.args in
+    from_flat (reading_of a.table.now) a.arrivals.now a.from a.ticks a.trace.now c.run_flat.result c.run_flat.new.trace c.no_flat-flat.result c.taken_apart.new.flat (rw c.no_flat-flat.ensures (length-blank 20480 0)) c.taken_apart.ensures c.run_flat.ensures
