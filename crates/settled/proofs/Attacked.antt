@@ -7,7 +7,8 @@ use mathlib.Core.Path.{◌≡◌, refl, sym, ◌∙◌, ap}
 use mathlib.Core.List.{List, [], ◌∷◌}
 use mathlib.Core.Logic.{◌↔◌}
 use native.Mathlib.Omega.{arith}
-use denote.Ref.{Bor}
+use denote.Bor.{Bor}
+use denote.MutBor.{MutBor}
 use denote.Triple.Entry.{Args}
 use lib.ListN.{length, get_or, take, drop}
 use Rattle.lists.specs.Tab.{tab, blank}
@@ -39,17 +40,18 @@ use Rattle.kieferntuch.specs.Answer.{plan_answer}
 use Rattle.kieferntuch.specs.Sheet.{written_at, sheet_after}
 use Rattle.kieferntuch.proofs.Exactly.{Ready, written_exactly, planned}
 use Rattle.kieferntuch.proofs.ReadBack.{sheet_read_back}
-use Rattle.kieferntuch.proofs.kieferntuch_plan as plan
+use Rattle.kieferntuch.specs.contracts.kieferntuch_plan as kieferntuch_plan_contract
+use Rattle.kieferntuch.proofs.kieferntuch_plan as kieferntuch_plan_proof
 use Rattle.kieferntuch.specs.contracts.kieferntuch_run as run
 use Rattle.settled.specs.Settled.{Program, Meets}
 use Rattle.settled.proofs.Records.{run_asks, run_says}
 
 -- programs in the place of the two functions, and that they meet the contract
 abbrev pub Planner : Type 0
-Planner = Program plan.ended
+Planner = Program kieferntuch_plan_contract.ended
 
 abbrev pub Plans : Planner → Type 0
-Plans = Meets plan.ended plan.Reads.Pre plan.Reads.Post
+Plans = Meets kieferntuch_plan_contract.ended kieferntuch_plan_proof.Reads.Pre kieferntuch_plan_proof.Reads.Post
 
 abbrev pub Runner : Type 0
 Runner = Program run.ended
@@ -129,12 +131,15 @@ sheet_21 = blank 21 0
 abbrev trace_6 : List ℕ
 trace_6 = blank 6 0
 
--- a lent slice with these in it
+-- a lent slice with these in it, and one that may be written
 abbrev lent : {A : Type 0} → List A → Bor (List A)
 lent xs = record { ref_ptr = (0, 0); now = xs }
 
-abbrev plan_call : ℕ → Args (plan.ended).signature ([], ([], tt))
-plan_call t = (lent (table t), (0, (lent sheet_21, tt)))
+abbrev lent_mut : {A : Type 0} → List A → MutBor (List A)
+lent_mut xs = record { ref_ptr = (0, 0); ghost_name = 0; now = xs }
+
+abbrev plan_call : ℕ → Args (kieferntuch_plan_contract.ended).signature ([], ([], tt))
+plan_call t = (lent (table t), (0, (lent_mut sheet_21, tt)))
 
 -- a job of two ticks that arrives at tick 0: with 3 ticks of it its first stage has run, and its other stages, which are empty, have ended; with
 -- 1 tick, one unit is run and one owed
@@ -142,7 +147,7 @@ abbrev arrivals : List Arrival
 arrivals = record { tick = 0; row = 1; len1 = 2; len2 = 0; len3 = 0 } ∷ []
 
 abbrev run_call : ℕ → Args (run.ended).signature ([], ([], ([], tt)))
-run_call ticks = (lent (table 2), (lent arrivals, (0, (ticks, (lent trace_6, tt)))))
+run_call ticks = (lent (table 2), (lent arrivals, (0, (ticks, (lent_mut trace_6, tt)))))
 
 abbrev three_ticks : Ran
 three_ticks = done (2 ∷ blank 191 0) (record { jobs = 1; run = 2; owed = 0 })
@@ -275,7 +280,7 @@ module _ (f : Runner) (meets : Runs f) where
   no_made_up_owed = made_up (λ r. r.owed) (λ e. omega arith)
 
   -- "(demand 2, counts are the machine's own)": from tick 0 on, units are the busy bytes of the trace that it leaves itself
-  pub units_are_busy : (κs : _) (table : Bor (List ℕ)) (arrivals : Bor (List Arrival)) (ticks : ℕ) (trace : Bor (List ℕ)) →
+  pub units_are_busy : (κs : _) (table : Bor (List ℕ)) (arrivals : Bor (List Arrival)) (ticks : ℕ) (trace : MutBor (List ℕ)) →
       let (r, (_, (_, (_, (_, (after, _)))))) = f κs (table, (arrivals, (0, (ticks, (trace, tt))))) in
       r.number ≡ 0 → r.run ≡ busy (take (processors_of table.now * ticks) after)
   units_are_busy κs table arrivals ticks trace z =

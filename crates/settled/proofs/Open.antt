@@ -14,8 +14,10 @@ use Rattle.machine.specs.declared.Chart.{Chart}
 use Rattle.arrivals.specs.Arrival.{brings}
 use Rattle.stretch.specs.Stretch.{steps_from, worst_from, Stretch}
 use Rattle.settled.specs.Settled.{Agrees}
-use Rattle.machine.proofs.release_rows as release-rows
-use Rattle.stretch.proofs.stretch as stretch
+use Rattle.machine.specs.contracts.release_rows as release_rows_contract
+use Rattle.machine.proofs.release_rows as release_rows_proof
+use Rattle.stretch.specs.contracts.stretch as stretch_contract
+use Rattle.stretch.proofs.stretch as stretch_proof
 
 -- there is one place where the arrivals from a key on begin
 seek_one : (xs : List Arrival) (j k key : ℕ) → Seek xs j key → Seek xs k key → j ≡ k
@@ -25,9 +27,9 @@ seek_one xs j k key x y =
     (λ l. dite (dec_lt k j) (λ m. absurd (omega (arith, x.past k m, y.ahead k (omega arith) (omega (arith, x.inside))))) (λ m. omega arith))
 
 -- What the releases of a tick settle: whether one comes too early, and of which row; if none does, the jobs, and the place that the arrivals have come to. Open are the jobs where one comes too early (the run is over, and nobody reads them), and by which numbers a job is kept that stands for the same.
-release_rows_agrees : Agrees release-rows.ended
+release_rows_agrees : Agrees release_rows_contract.ended
     (λ κs (jobs, (due, (bounds, (n, rest)))) (x, (js, v)) (y, (ks, w)). (x.late ≡ y.late) × (x.late ≡ n → (jobs_in js ≡ jobs_in ks) × (x.next ≡ y.next)))
-    release-rows.Reads.Pre release-rows.Reads.Post
+    release_rows_proof.Reads.Pre release_rows_proof.Reads.Post
 release_rows_agrees κs a (x, v) (y, w) h p q =
     let late : x.late ≡ y.late = p.2 ∙ sym q.2 in
     (late, λ e. let l = sym late ∙ e in ((p.3 e).0 ∙ sym (q.3 l).0, seek_one _ _ _ _ (p.3 e).2.seek (q.3 l).2.seek))
@@ -43,11 +45,11 @@ as_many {c} {xs} {t} {js} {worst = worst} {next₁ = next₁} {next₂ = next₂
 )
 
 -- What a stretch of ticks settles: the same, and with as many ticks the jobs, the worst responses, the bytes where a lane is lent for them, and the place that the arrivals have come to. Open is how many ticks are taken together.
-stretch_agrees : Agrees stretch.ended
+stretch_agrees : Agrees stretch_contract.ended
     (λ κs (jobs, (due, (next, (t, (e, (n, (m, rest))))))) (x, (js, (ds, (i2, (i3, (i4, (i5, (i6, (i7, (i8, (i9, (i10, (i11, (i12, (worst, (lane, i))))))))))))))))
     (y, (ks, (es, (j2, (j3, (j4, (j5, (j6, (j7, (j8, (j9, (j10, (j11, (j12, (worst', (lane', j)))))))))))))))).
     (x.late ≡ y.late) × (x.late ≡ n → x.ticks ≡ y.ticks → (jobs_in js ≡ jobs_in ks) × (worst ≡ worst') × (length lane ≡ m → length lane' ≡ m → lane ≡ lane') × (x.next ≡ y.next)))
-    stretch.Reads.Pre stretch.Reads.Post
+    stretch_proof.Reads.Pre stretch_proof.Reads.Post
 stretch_agrees κs a (x, v) (y, w) h p q =
     let late : x.late ≡ y.late = p.2 ∙ sym q.2 in (
       late,

@@ -1,207 +1,258 @@
 -- Every public function but the two of Open: any two results that its contract allows are the same, and so is what they leave in lent buffers. `NAME.Reads` is the function's own contract, which is an equation, so both results are the same as a third. The two that are lent records are in Records.
 use mathlib.Core.Path.{refl, sym, ◌∙◌}
 use Rattle.settled.specs.Settled.{Settles}
-use Rattle.lists.proofs.no_column as no-column
-use Rattle.lists.proofs.no_numbered as no-numbered
-use Rattle.lists.proofs.one_if as one-if
-use Rattle.lists.proofs.smaller as smaller
-use Rattle.lists.proofs.store as store
-use Rattle.bits.proofs.word as word
-use Rattle.bits.proofs.field as field
-use Rattle.rank.proofs.ranks as ranks
-use Rattle.rank.proofs.uses as uses
-use Rattle.rank.proofs.ceilings as ceilings
-use Rattle.rank.proofs.in_rank as in-rank
-use Rattle.rank.proofs.in_rows as in_rows
-use Rattle.rank.proofs.numbers_to as numbers-to
-use Rattle.table.proofs.read_table as read_table
-use Rattle.table.proofs.refusal_of as refusal-of
-use Rattle.bounds.proofs.bound_on as bound-on
-use Rattle.bounds.proofs.add_term as add_term
-use Rattle.bounds.proofs.no_lanes as no-lanes
-use Rattle.sections.proofs.section_bounds as section-bounds
-use Rattle.stages.proofs.place_tasks as place-tasks
-use Rattle.spread.proofs.weights as weights
-use Rattle.spread.proofs.used as used
-use Rattle.spread.proofs.heaviest as heaviest
-use Rattle.spread.proofs.serve as serve
-use Rattle.plan.proofs.of_resource as of_resource_lem
-use Rattle.plan.proofs.plan_table as plan-table
-use Rattle.sheet.proofs.write_plan as write-plan
-use Rattle.arrivals.proofs.check_arrivals as check-arrivals
-use Rattle.arrivals.proofs.comes as comes
-use Rattle.arrivals.proofs.lens_at as lens-at
-use Rattle.chain.proofs.release_job as release-job
-use Rattle.chain.proofs.due_of as due-of
-use Rattle.chain.proofs.response as response
-use Rattle.chain.proofs.unit as unit
-use Rattle.chain.proofs.push as push
-use Rattle.chain.proofs.owed as owed
-use Rattle.jobs.proofs.no_jobs as no-jobs
-use Rattle.jobs.proofs.job_at as job-at
-use Rattle.jobs.proofs.put_job as put-job
-use Rattle.picks.proofs.picks as picks
-use Rattle.machine.proofs.no_threes as no-threes
-use Rattle.machine.proofs.chart_of as chart-of
-use Rattle.machine.proofs.soonest as soonest
-use Rattle.machine.proofs.serve_job as serve-job
-use Rattle.machine.proofs.note as note
-use Rattle.machine.proofs.show as show
-use Rattle.machine.proofs.count_up as count-up
-use Rattle.run.proofs.run_flat as run-flat
-use Rattle.listing.proofs.write_listing as write-listing
-use Rattle.kieferntuch.proofs.kieferntuch_read as kieferntuch-read
-use Rattle.kieferntuch.proofs.kieferntuch_plan as kieferntuch-plan
+use Rattle.lists.specs.contracts.no_column as no_column_contract
+use Rattle.lists.proofs.no_column as no_column_proof
+use Rattle.lists.specs.contracts.no_numbered as no_numbered_contract
+use Rattle.lists.proofs.no_numbered as no_numbered_proof
+use Rattle.lists.specs.contracts.one_if as one_if_contract
+use Rattle.lists.proofs.one_if as one_if_proof
+use Rattle.lists.specs.contracts.smaller as smaller_contract
+use Rattle.lists.proofs.smaller as smaller_proof
+use Rattle.lists.specs.contracts.store as store_contract
+use Rattle.lists.proofs.store as store_proof
+use Rattle.bits.specs.contracts.word as word_contract
+use Rattle.bits.proofs.word as word_proof
+use Rattle.bits.specs.contracts.field as field_contract
+use Rattle.bits.proofs.field as field_proof
+use Rattle.rank.specs.contracts.ranks as ranks_contract
+use Rattle.rank.proofs.ranks as ranks_proof
+use Rattle.rank.specs.contracts.uses as uses_contract
+use Rattle.rank.proofs.uses as uses_proof
+use Rattle.rank.specs.contracts.ceilings as ceilings_contract
+use Rattle.rank.proofs.ceilings as ceilings_proof
+use Rattle.rank.specs.contracts.in_rank as in_rank_contract
+use Rattle.rank.proofs.in_rank as in_rank_proof
+use Rattle.rank.specs.contracts.in_rows as in_rows_contract
+use Rattle.rank.proofs.in_rows as in_rows_proof
+use Rattle.rank.specs.contracts.numbers_to as numbers_to_contract
+use Rattle.rank.proofs.numbers_to as numbers_to_proof
+use Rattle.table.specs.contracts.read_table as read_table_contract
+use Rattle.table.proofs.read_table as read_table_proof
+use Rattle.table.specs.contracts.refusal_of as refusal_of_contract
+use Rattle.table.proofs.refusal_of as refusal_of_proof
+use Rattle.bounds.specs.contracts.bound_on as bound_on_contract
+use Rattle.bounds.proofs.bound_on as bound_on_proof
+use Rattle.bounds.specs.contracts.add_term as add_term_contract
+use Rattle.bounds.proofs.add_term as add_term_proof
+use Rattle.bounds.specs.contracts.no_lanes as no_lanes_contract
+use Rattle.bounds.proofs.no_lanes as no_lanes_proof
+use Rattle.sections.specs.contracts.section_bounds as section_bounds_contract
+use Rattle.sections.proofs.section_bounds as section_bounds_proof
+use Rattle.stages.specs.contracts.place_tasks as place_tasks_contract
+use Rattle.stages.proofs.place_tasks as place_tasks_proof
+use Rattle.spread.specs.contracts.weights as weights_contract
+use Rattle.spread.proofs.weights as weights_proof
+use Rattle.spread.specs.contracts.used as used_contract
+use Rattle.spread.proofs.used as used_proof
+use Rattle.spread.specs.contracts.heaviest as heaviest_contract
+use Rattle.spread.proofs.heaviest as heaviest_proof
+use Rattle.spread.specs.contracts.serve as serve_contract
+use Rattle.spread.proofs.serve as serve_proof
+use Rattle.plan.specs.contracts.of_resource as of_resource_contract
+use Rattle.plan.proofs.of_resource as of_resource_proof
+use Rattle.plan.specs.contracts.plan_table as plan_table_contract
+use Rattle.plan.proofs.plan_table as plan_table_proof
+use Rattle.sheet.specs.contracts.write_plan as write_plan_contract
+use Rattle.sheet.proofs.write_plan as write_plan_proof
+use Rattle.arrivals.specs.contracts.check_arrivals as check_arrivals_contract
+use Rattle.arrivals.proofs.check_arrivals as check_arrivals_proof
+use Rattle.arrivals.specs.contracts.comes as comes_contract
+use Rattle.arrivals.proofs.comes as comes_proof
+use Rattle.arrivals.specs.contracts.lens_at as lens_at_contract
+use Rattle.arrivals.proofs.lens_at as lens_at_proof
+use Rattle.chain.specs.contracts.release_job as release_job_contract
+use Rattle.chain.proofs.release_job as release_job_proof
+use Rattle.chain.specs.contracts.due_of as due_of_contract
+use Rattle.chain.proofs.due_of as due_of_proof
+use Rattle.chain.specs.contracts.response as response_contract
+use Rattle.chain.proofs.response as response_proof
+use Rattle.chain.specs.contracts.unit as unit_contract
+use Rattle.chain.proofs.unit as unit_proof
+use Rattle.chain.specs.contracts.push as push_contract
+use Rattle.chain.proofs.push as push_proof
+use Rattle.chain.specs.contracts.owed as owed_contract
+use Rattle.chain.proofs.owed as owed_proof
+use Rattle.jobs.specs.contracts.no_jobs as no_jobs_contract
+use Rattle.jobs.proofs.no_jobs as no_jobs_proof
+use Rattle.jobs.specs.contracts.job_at as job_at_contract
+use Rattle.jobs.proofs.job_at as job_at_proof
+use Rattle.jobs.specs.contracts.put_job as put_job_contract
+use Rattle.jobs.proofs.put_job as put_job_proof
+use Rattle.picks.specs.contracts.picks as picks_contract
+use Rattle.picks.proofs.picks as picks_proof
+use Rattle.machine.specs.contracts.no_threes as no_threes_contract
+use Rattle.machine.proofs.no_threes as no_threes_proof
+use Rattle.machine.specs.contracts.chart_of as chart_of_contract
+use Rattle.machine.proofs.chart_of as chart_of_proof
+use Rattle.machine.specs.contracts.soonest as soonest_contract
+use Rattle.machine.proofs.soonest as soonest_proof
+use Rattle.machine.specs.contracts.serve_job as serve_job_contract
+use Rattle.machine.proofs.serve_job as serve_job_proof
+use Rattle.machine.specs.contracts.note as note_contract
+use Rattle.machine.proofs.note as note_proof
+use Rattle.machine.specs.contracts.show as show_contract
+use Rattle.machine.proofs.show as show_proof
+use Rattle.machine.specs.contracts.count_up as count_up_contract
+use Rattle.machine.proofs.count_up as count_up_proof
+use Rattle.run.specs.contracts.run_flat as run_flat_contract
+use Rattle.run.proofs.run_flat as run_flat_proof
+use Rattle.listing.specs.contracts.write_listing as write_listing_contract
+use Rattle.listing.proofs.write_listing as write_listing_proof
+use Rattle.kieferntuch.specs.contracts.kieferntuch_read as kieferntuch_read_contract
+use Rattle.kieferntuch.proofs.kieferntuch_read as kieferntuch_read_proof
+use Rattle.kieferntuch.specs.contracts.kieferntuch_plan as kieferntuch_plan_contract
+use Rattle.kieferntuch.proofs.kieferntuch_plan as kieferntuch_plan_proof
 
-no_column_settled : Settles no-column.ended no-column.Reads.Pre no-column.Reads.Post
+no_column_settled : Settles no_column_contract.ended no_column_proof.Reads.Pre no_column_proof.Reads.Post
 no_column_settled κs a r s h p q = (p ∙ sym q, refl)
 
-no_numbered_settled : Settles no-numbered.ended no-numbered.Reads.Pre no-numbered.Reads.Post
+no_numbered_settled : Settles no_numbered_contract.ended no_numbered_proof.Reads.Pre no_numbered_proof.Reads.Post
 no_numbered_settled κs a r s h p q = (p ∙ sym q, refl)
 
-one_if_settled : Settles one-if.ended one-if.Reads.Pre one-if.Reads.Post
+one_if_settled : Settles one_if_contract.ended one_if_proof.Reads.Pre one_if_proof.Reads.Post
 one_if_settled κs a r s h p q = (p.0 ∙ sym q.0, refl)
 
-smaller_settled : Settles smaller.ended smaller.Reads.Pre smaller.Reads.Post
+smaller_settled : Settles smaller_contract.ended smaller_proof.Reads.Pre smaller_proof.Reads.Post
 smaller_settled κs a r s h p q = (p ∙ sym q, refl)
 
-store_settled : Settles store.ended store.Reads.Pre store.Reads.Post
+store_settled : Settles store_contract.ended store_proof.Reads.Pre store_proof.Reads.Post
 store_settled κs a r s h p q = (refl, λ i. ((p ∙ sym q) i, (tt, (tt, tt))))
 
-word_settled : Settles word.ended word.Reads.Pre word.Reads.Post
+word_settled : Settles word_contract.ended word_proof.Reads.Pre word_proof.Reads.Post
 word_settled κs a r s h p q = (p.0 ∙ sym q.0, refl)
 
-field_settled : Settles field.ended field.Reads.Pre field.Reads.Post
+field_settled : Settles field_contract.ended field_proof.Reads.Pre field_proof.Reads.Post
 field_settled κs a r s h p q = (p.0 ∙ sym q.0, refl)
 
-ranks_settled : Settles ranks.ended ranks.Reads.Pre ranks.Reads.Post
+ranks_settled : Settles ranks_contract.ended ranks_proof.Reads.Pre ranks_proof.Reads.Post
 ranks_settled κs a r s h p q = (p ∙ sym q, refl)
 
-uses_settled : Settles uses.ended uses.Reads.Pre uses.Reads.Post
+uses_settled : Settles uses_contract.ended uses_proof.Reads.Pre uses_proof.Reads.Post
 uses_settled κs a r s h p q = (p ∙ sym q, refl)
 
-ceilings_settled : Settles ceilings.ended ceilings.Reads.Pre ceilings.Reads.Post
+ceilings_settled : Settles ceilings_contract.ended ceilings_proof.Reads.Pre ceilings_proof.Reads.Post
 ceilings_settled κs a r s h p q = (p ∙ sym q, refl)
 
-in_rank_settled : Settles in-rank.ended in-rank.Reads.Pre in-rank.Reads.Post
+in_rank_settled : Settles in_rank_contract.ended in_rank_proof.Reads.Pre in_rank_proof.Reads.Post
 in_rank_settled κs a r s h p q = (p ∙ sym q, refl)
 
-in_rows_settled : Settles in_rows.ended in_rows.Reads.Pre in_rows.Reads.Post
+in_rows_settled : Settles in_rows_contract.ended in_rows_proof.Reads.Pre in_rows_proof.Reads.Post
 in_rows_settled κs a r s h p q = (p ∙ sym q, refl)
 
-numbers_to_settled : Settles numbers-to.ended numbers-to.Reads.Pre numbers-to.Reads.Post
+numbers_to_settled : Settles numbers_to_contract.ended numbers_to_proof.Reads.Pre numbers_to_proof.Reads.Post
 numbers_to_settled κs a r s h p q = (p ∙ sym q, refl)
 
-read_table_settled : Settles read_table.ended read_table.Reads.Pre read_table.Reads.Post
+read_table_settled : Settles read_table_contract.ended read_table_proof.Reads.Pre read_table_proof.Reads.Post
 read_table_settled κs a r s h p q = (p ∙ sym q, refl)
 
-refusal_of_settled : Settles refusal-of.ended refusal-of.Reads.Pre refusal-of.Reads.Post
+refusal_of_settled : Settles refusal_of_contract.ended refusal_of_proof.Reads.Pre refusal_of_proof.Reads.Post
 refusal_of_settled κs a r s h p q = (p ∙ sym q, refl)
 
-bound_on_settled : Settles bound-on.ended bound-on.Reads.Pre bound-on.Reads.Post
+bound_on_settled : Settles bound_on_contract.ended bound_on_proof.Reads.Pre bound_on_proof.Reads.Post
 bound_on_settled κs a r s h p q = (p ∙ sym q, refl)
 
-add_term_settled : Settles add_term.ended add_term.Reads.Pre add_term.Reads.Post
+add_term_settled : Settles add_term_contract.ended add_term_proof.Reads.Pre add_term_proof.Reads.Post
 add_term_settled κs a r s h p q = (refl, λ i. ((p.0 ∙ sym q.0) i, ((p.1 ∙ sym q.1) i, ((p.2 ∙ sym q.2) i, (tt, (tt, (tt, tt)))))))
 
-no_lanes_settled : Settles no-lanes.ended no-lanes.Reads.Pre no-lanes.Reads.Post
+no_lanes_settled : Settles no_lanes_contract.ended no_lanes_proof.Reads.Pre no_lanes_proof.Reads.Post
 no_lanes_settled κs a r s h p q = (p ∙ sym q, refl)
 
-section_bounds_settled : Settles section-bounds.ended section-bounds.Reads.Pre section-bounds.Reads.Post
+section_bounds_settled : Settles section_bounds_contract.ended section_bounds_proof.Reads.Pre section_bounds_proof.Reads.Post
 section_bounds_settled κs a r s h p q = (p ∙ sym q, refl)
 
-place_tasks_settled : Settles place-tasks.ended place-tasks.Reads.Pre place-tasks.Reads.Post
+place_tasks_settled : Settles place_tasks_contract.ended place_tasks_proof.Reads.Pre place_tasks_proof.Reads.Post
 place_tasks_settled κs a r s h p q = (p ∙ sym q, refl)
 
-weights_settled : Settles weights.ended weights.Reads.Pre weights.Reads.Post
+weights_settled : Settles weights_contract.ended weights_proof.Reads.Pre weights_proof.Reads.Post
 weights_settled κs a r s h p q = (p ∙ sym q, refl)
 
-used_settled : Settles used.ended used.Reads.Pre used.Reads.Post
+used_settled : Settles used_contract.ended used_proof.Reads.Pre used_proof.Reads.Post
 used_settled κs a r s h p q = (p.0 ∙ sym q.0, refl)
 
-heaviest_settled : Settles heaviest.ended heaviest.Reads.Pre heaviest.Reads.Post
+heaviest_settled : Settles heaviest_contract.ended heaviest_proof.Reads.Pre heaviest_proof.Reads.Post
 heaviest_settled κs a r s h p q = (p ∙ sym q, refl)
 
-serve_settled : Settles serve.ended serve.Reads.Pre serve.Reads.Post
+serve_settled : Settles serve_contract.ended serve_proof.Reads.Pre serve_proof.Reads.Post
 serve_settled κs a r s h p q = (p ∙ sym q, refl)
 
-of_resource_settled : Settles of_resource_lem.ended of_resource_lem.Reads.Pre of_resource_lem.Reads.Post
+of_resource_settled : Settles of_resource_contract.ended of_resource_proof.Reads.Pre of_resource_proof.Reads.Post
 of_resource_settled κs a r s h p q = (p ∙ sym q, refl)
 
-plan_table_settled : Settles plan-table.ended plan-table.Reads.Pre plan-table.Reads.Post
+plan_table_settled : Settles plan_table_contract.ended plan_table_proof.Reads.Pre plan_table_proof.Reads.Post
 plan_table_settled κs a r s h p q = (p ∙ sym q, refl)
 
-write_plan_settled : Settles write-plan.ended write-plan.Reads.Pre write-plan.Reads.Post
+write_plan_settled : Settles write_plan_contract.ended write_plan_proof.Reads.Pre write_plan_proof.Reads.Post
 write_plan_settled κs a r s h p q = (refl, λ i. ((p ∙ sym q) i, (tt, (tt, (tt, (tt, (tt, (tt, (tt, (tt, tt))))))))))
 
-check_arrivals_settled : Settles check-arrivals.ended check-arrivals.Reads.Pre check-arrivals.Reads.Post
+check_arrivals_settled : Settles check_arrivals_contract.ended check_arrivals_proof.Reads.Pre check_arrivals_proof.Reads.Post
 check_arrivals_settled κs a r s h p q = (p ∙ sym q, refl)
 
-comes_settled : Settles comes.ended comes.Reads.Pre comes.Reads.Post
+comes_settled : Settles comes_contract.ended comes_proof.Reads.Pre comes_proof.Reads.Post
 comes_settled κs a r s h p q = (p ∙ sym q, refl)
 
-lens_at_settled : Settles lens-at.ended lens-at.Reads.Pre lens-at.Reads.Post
+lens_at_settled : Settles lens_at_contract.ended lens_at_proof.Reads.Pre lens_at_proof.Reads.Post
 lens_at_settled κs a r s h p q = (p ∙ sym q, refl)
 
-release_job_settled : Settles release-job.ended release-job.Reads.Pre release-job.Reads.Post
+release_job_settled : Settles release_job_contract.ended release_job_proof.Reads.Pre release_job_proof.Reads.Post
 release_job_settled κs a r s h p q = (λ i. record { job = (p.0 ∙ sym q.0) i; late = (p.1 ∙ sym q.1) i }, refl)
 
-due_of_settled : Settles due-of.ended due-of.Reads.Pre due-of.Reads.Post
+due_of_settled : Settles due_of_contract.ended due_of_proof.Reads.Pre due_of_proof.Reads.Post
 due_of_settled κs a r s h p q = (p ∙ sym q, refl)
 
-response_settled : Settles response.ended response.Reads.Pre response.Reads.Post
+response_settled : Settles response_contract.ended response_proof.Reads.Pre response_proof.Reads.Post
 response_settled κs a r s h p q = (p ∙ sym q, refl)
 
-unit_settled : Settles unit.ended unit.Reads.Pre unit.Reads.Post
+unit_settled : Settles unit_contract.ended unit_proof.Reads.Pre unit_proof.Reads.Post
 unit_settled κs a r s h p q = (p ∙ sym q, refl)
 
-push_settled : Settles push.ended push.Reads.Pre push.Reads.Post
+push_settled : Settles push_contract.ended push_proof.Reads.Pre push_proof.Reads.Post
 push_settled κs a r s h p q = (p ∙ sym q, refl)
 
-owed_settled : Settles owed.ended owed.Reads.Pre owed.Reads.Post
+owed_settled : Settles owed_contract.ended owed_proof.Reads.Pre owed_proof.Reads.Post
 owed_settled κs a r s h p q = (p.0 ∙ sym q.0, refl)
 
-no_jobs_settled : Settles no-jobs.ended no-jobs.Reads.Pre no-jobs.Reads.Post
+no_jobs_settled : Settles no_jobs_contract.ended no_jobs_proof.Reads.Pre no_jobs_proof.Reads.Post
 no_jobs_settled κs a r s h p q = (p ∙ sym q, refl)
 
-job_at_settled : Settles job-at.ended job-at.Reads.Pre job-at.Reads.Post
+job_at_settled : Settles job_at_contract.ended job_at_proof.Reads.Pre job_at_proof.Reads.Post
 job_at_settled κs a r s h p q = (p ∙ sym q, refl)
 
-put_job_settled : Settles put-job.ended put-job.Reads.Pre put-job.Reads.Post
+put_job_settled : Settles put_job_contract.ended put_job_proof.Reads.Pre put_job_proof.Reads.Post
 put_job_settled κs a r s h p q = (refl, λ i. ((p ∙ sym q) i, (tt, (tt, tt))))
 
-picks_settled : Settles picks.ended picks.Reads.Pre picks.Reads.Post
+picks_settled : Settles picks_contract.ended picks_proof.Reads.Pre picks_proof.Reads.Post
 picks_settled κs a r s h p q = (p ∙ sym q, refl)
 
-no_threes_settled : Settles no-threes.ended no-threes.Reads.Pre no-threes.Reads.Post
+no_threes_settled : Settles no_threes_contract.ended no_threes_proof.Reads.Pre no_threes_proof.Reads.Post
 no_threes_settled κs a r s h p q = (p ∙ sym q, refl)
 
-chart_of_settled : Settles chart-of.ended chart-of.Reads.Pre chart-of.Reads.Post
+chart_of_settled : Settles chart_of_contract.ended chart_of_proof.Reads.Pre chart_of_proof.Reads.Post
 chart_of_settled κs a r s h p q = (p ∙ sym q, refl)
 
-soonest_settled : Settles soonest.ended soonest.Reads.Pre soonest.Reads.Post
+soonest_settled : Settles soonest_contract.ended soonest_proof.Reads.Pre soonest_proof.Reads.Post
 soonest_settled κs a r s h p q = (p ∙ sym q, refl)
 
-serve_job_settled : Settles serve-job.ended serve-job.Reads.Pre serve-job.Reads.Post
+serve_job_settled : Settles serve_job_contract.ended serve_job_proof.Reads.Pre serve_job_proof.Reads.Post
 serve_job_settled κs a r s h p q = (p ∙ sym q, refl)
 
-note_settled : Settles note.ended note.Reads.Pre note.Reads.Post
+note_settled : Settles note_contract.ended note_proof.Reads.Pre note_proof.Reads.Post
 note_settled κs a r s h p q = (refl, λ i. (tt, (tt, (tt, (tt, ((p ∙ sym q) i, tt))))))
 
-show_settled : Settles show.ended show.Reads.Pre show.Reads.Post
+show_settled : Settles show_contract.ended show_proof.Reads.Pre show_proof.Reads.Post
 show_settled κs a r s h p q = (refl, λ i. (tt, (tt, ((p ∙ sym q) i, tt))))
 
-count_up_settled : Settles count-up.ended count-up.Reads.Pre count-up.Reads.Post
+count_up_settled : Settles count_up_contract.ended count_up_proof.Reads.Pre count_up_proof.Reads.Post
 count_up_settled κs a r s h p q = (p ∙ sym q, refl)
 
-run_flat_settled : Settles run-flat.ended run-flat.Reads.Pre run-flat.Reads.Post
+run_flat_settled : Settles run_flat_contract.ended run_flat_proof.Reads.Pre run_flat_proof.Reads.Post
 run_flat_settled κs a r s h p q = (p.0 ∙ sym q.0, λ i. (tt, (tt, (tt, (tt, (tt, ((p.1 ∙ sym q.1) i, tt)))))))
 
-write_listing_settled : Settles write-listing.ended write-listing.Reads.Pre write-listing.Reads.Post
+write_listing_settled : Settles write_listing_contract.ended write_listing_proof.Reads.Pre write_listing_proof.Reads.Post
 write_listing_settled κs a r s h p q = (p.0.ends ∙ sym q.0.ends, λ i. (tt, ((p.0.bytes ∙ sym q.0.bytes) i, tt)))
 
-kieferntuch_read_settled : Settles kieferntuch-read.ended kieferntuch-read.Reads.Pre kieferntuch-read.Reads.Post
+kieferntuch_read_settled : Settles kieferntuch_read_contract.ended kieferntuch_read_proof.Reads.Pre kieferntuch_read_proof.Reads.Post
 kieferntuch_read_settled κs a r s h p q = (p ∙ sym q, refl)
 
-kieferntuch_plan_settled : Settles kieferntuch-plan.ended kieferntuch-plan.Reads.Pre kieferntuch-plan.Reads.Post
+kieferntuch_plan_settled : Settles kieferntuch_plan_contract.ended kieferntuch_plan_proof.Reads.Pre kieferntuch_plan_proof.Reads.Post
 kieferntuch_plan_settled κs a r s h p q = (p.0 ∙ sym q.0, λ i. (tt, (tt, ((p.1 ∙ sym q.1) i, tt))))

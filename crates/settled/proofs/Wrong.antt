@@ -11,7 +11,8 @@ use lib.Dec.{eqb, eqb-suc-zero}
 use lib.ListN.{length, get_or, set, length-append}
 use lib.Seq.{sets}
 use contract.Lifetimes.{Lfts}
-use denote.Ref.{Bor}
+use denote.Bor.{Bor}
+use denote.MutBor.{MutBor}
 use denote.Triple.Entry.{Args}
 use denote.Triple.Clauses.{Ended}
 use Rattle.lists.specs.Tab.{tab, joined, blank, filled}
@@ -43,34 +44,61 @@ use Rattle.machine.specs.Tick.{serve_at, kind_of, byte_of, noted_at}
 use Rattle.run.specs.Run.{refused}
 use Rattle.run.specs.Answer.{table_answer, run_answer, trace_after}
 use Rattle.kieferntuch.specs.Answer.{answer, plan_answer}
-use Rattle.lists.proofs.smaller as smaller
-use Rattle.lists.proofs.store as store
-use Rattle.rank.proofs.uses as uses
-use Rattle.rank.proofs.in_rank as in-rank
-use Rattle.rank.proofs.in_rows as in_rows
-use Rattle.rank.proofs.numbers_to as numbers-to
-use Rattle.bounds.proofs.add_term as add_term
-use Rattle.bounds.proofs.no_lanes as no-lanes
-use Rattle.spread.proofs.used as used
-use Rattle.spread.proofs.heaviest as heaviest
-use Rattle.plan.proofs.of_resource as of_resource_lem
+use Rattle.lists.specs.contracts.smaller as smaller_contract
+use Rattle.lists.proofs.smaller as smaller_proof
+use Rattle.lists.specs.contracts.store as store_contract
+use Rattle.lists.proofs.store as store_proof
+use Rattle.rank.specs.contracts.uses as uses_contract
+use Rattle.rank.proofs.uses as uses_proof
+use Rattle.rank.specs.contracts.in_rank as in_rank_contract
+use Rattle.rank.proofs.in_rank as in_rank_proof
+use Rattle.rank.specs.contracts.in_rows as in_rows_contract
+use Rattle.rank.proofs.in_rows as in_rows_proof
+use Rattle.rank.specs.contracts.numbers_to as numbers_to_contract
+use Rattle.rank.proofs.numbers_to as numbers_to_proof
+use Rattle.bounds.specs.contracts.add_term as add_term_contract
+use Rattle.bounds.proofs.add_term as add_term_proof
+use Rattle.bounds.specs.contracts.no_lanes as no_lanes_contract
+use Rattle.bounds.proofs.no_lanes as no_lanes_proof
+use Rattle.spread.specs.contracts.used as used_contract
+use Rattle.spread.proofs.used as used_proof
+use Rattle.spread.specs.contracts.heaviest as heaviest_contract
+use Rattle.spread.proofs.heaviest as heaviest_proof
+use Rattle.plan.specs.contracts.of_resource as of_resource_contract
+use Rattle.plan.proofs.of_resource as of_resource_proof
 use Rattle.arrivals.specs.contracts.taken_apart as taken-apart
-use Rattle.arrivals.proofs.comes as comes
-use Rattle.arrivals.proofs.lens_at as lens-at
-use Rattle.chain.proofs.due_of as due-of
-use Rattle.chain.proofs.response as response
-use Rattle.chain.proofs.push as push
-use Rattle.chain.proofs.owed as owed
-use Rattle.jobs.proofs.no_jobs as no-jobs
-use Rattle.jobs.proofs.job_at as job-at
-use Rattle.jobs.proofs.put_job as put-job
-use Rattle.machine.proofs.no_threes as no-threes
-use Rattle.machine.proofs.chart_of as chart-of
-use Rattle.machine.proofs.soonest as soonest
-use Rattle.machine.proofs.serve_job as serve-job
-use Rattle.machine.proofs.note as note
-use Rattle.machine.proofs.show as show
-use Rattle.kieferntuch.proofs.kieferntuch_plan as planner
+use Rattle.arrivals.specs.contracts.comes as comes_contract
+use Rattle.arrivals.proofs.comes as comes_proof
+use Rattle.arrivals.specs.contracts.lens_at as lens_at_contract
+use Rattle.arrivals.proofs.lens_at as lens_at_proof
+use Rattle.chain.specs.contracts.due_of as due_of_contract
+use Rattle.chain.proofs.due_of as due_of_proof
+use Rattle.chain.specs.contracts.response as response_contract
+use Rattle.chain.proofs.response as response_proof
+use Rattle.chain.specs.contracts.push as push_contract
+use Rattle.chain.proofs.push as push_proof
+use Rattle.chain.specs.contracts.owed as owed_contract
+use Rattle.chain.proofs.owed as owed_proof
+use Rattle.jobs.specs.contracts.no_jobs as no_jobs_contract
+use Rattle.jobs.proofs.no_jobs as no_jobs_proof
+use Rattle.jobs.specs.contracts.job_at as job_at_contract
+use Rattle.jobs.proofs.job_at as job_at_proof
+use Rattle.jobs.specs.contracts.put_job as put_job_contract
+use Rattle.jobs.proofs.put_job as put_job_proof
+use Rattle.machine.specs.contracts.no_threes as no_threes_contract
+use Rattle.machine.proofs.no_threes as no_threes_proof
+use Rattle.machine.specs.contracts.chart_of as chart_of_contract
+use Rattle.machine.proofs.chart_of as chart_of_proof
+use Rattle.machine.specs.contracts.soonest as soonest_contract
+use Rattle.machine.proofs.soonest as soonest_proof
+use Rattle.machine.specs.contracts.serve_job as serve_job_contract
+use Rattle.machine.proofs.serve_job as serve_job_proof
+use Rattle.machine.specs.contracts.note as note_contract
+use Rattle.machine.proofs.note as note_proof
+use Rattle.machine.specs.contracts.show as show_contract
+use Rattle.machine.proofs.show as show_proof
+use Rattle.kieferntuch.specs.contracts.kieferntuch_plan as kieferntuch_plan_contract
+use Rattle.kieferntuch.proofs.kieferntuch_plan as kieferntuch_plan_proof
 use Rattle.kieferntuch.specs.contracts.kieferntuch_run as run
 use Rattle.settled.specs.Settled.{Requires, Ensures, Given, Allows}
 use Rattle.settled.proofs.Records.{apart_asks, apart_says, run_asks, run_says}
@@ -86,9 +114,12 @@ seen {x} {y} f d e = eqb-false (f x) (f y) d (ap f e)
 at : {xs ys : List ℕ} (k : ℕ) → eqb (get_or xs k 0) (get_or ys k 0) ≡ false → xs ≡ ys → ⊥
 at k = seen (λ r. get_or r k 0)
 
--- a reference to block b, in which x lies
+-- a shared reference to block b, in which x lies, and one that may write
 abbrev lent : {X : Type 0} → ℕ → X → Bor X
-lent b x = record { ref_ptr = (b, 0); ghost_name = b; now = x }
+lent b x = record { ref_ptr = (b, 0); now = x }
+
+abbrev lent_mut : {X : Type 0} → ℕ → X → MutBor X
+lent_mut b x = record { ref_ptr = (b, 0); ghost_name = b; now = x }
 
 -- an array of `size` places that begins with these numbers, and has 0 behind them
 abbrev array : ℕ → List ℕ → List ℕ
@@ -111,22 +142,22 @@ below (x ∷ xs) (suc k) = omega (arith, below xs k)
 -- ---- lists
 
 -- `smaller`: the first of two numbers, whichever it is
-first_for_smaller : (κs : _) → RuledOut smaller.ended smaller.Reads.Pre smaller.Reads.Post κs (2, (1, tt)) (2, _)
+first_for_smaller : (κs : _) → RuledOut smaller_contract.ended smaller_proof.Reads.Pre smaller_proof.Reads.Post κs (2, (1, tt)) (2, _)
 first_for_smaller κs = (tt, seen (λ x. x) refl)
 
 -- `store`: from the front of the buffer on, and not from place `at` on
-stored_at_the_front : (κs : _) → RuledOut store.ended store.Reads.Pre store.Reads.Post κs
-    (lent 1 (1 ∷ 2 ∷ 3 ∷ []), (1, (lent 2 (7 ∷ []), tt))) (tt, (7 ∷ 2 ∷ 3 ∷ [], _))
+stored_at_the_front : (κs : _) → RuledOut store_contract.ended store_proof.Reads.Pre store_proof.Reads.Post κs
+    (lent_mut 1 (1 ∷ 2 ∷ 3 ∷ []), (1, (lent 2 (7 ∷ []), tt))) (tt, (7 ∷ 2 ∷ 3 ∷ [], _))
 stored_at_the_front κs = (omega arith, at 0 refl)
 
 -- ---- rank
 
 -- `uses`: 0, which is none, is taken for a resource
-uses_none_as_one : (κs : _) → RuledOut uses.ended uses.Reads.Pre uses.Reads.Post κs (0, (0, tt)) (true, _)
+uses_none_as_one : (κs : _) → RuledOut uses_contract.ended uses_proof.Reads.Pre uses_proof.Reads.Post κs (0, (0, tt)) (true, _)
 uses_none_as_one κs = (tt, seen (λ b. cond b 1 0) refl)
 
 -- `uses`: a row uses each resource up to the one that it names
-uses_up_to_named : (κs : _) → RuledOut uses.ended uses.Reads.Pre uses.Reads.Post κs (2, (1, tt)) (true, _)
+uses_up_to_named : (κs : _) → RuledOut uses_contract.ended uses_proof.Reads.Pre uses_proof.Reads.Post κs (2, (1, tt)) (true, _)
 uses_up_to_named κs = (tt, seen (λ b. cond b 1 0) refl)
 
 -- three rows, whose ranks are 1, 2, 0, and a column of them
@@ -137,19 +168,19 @@ abbrev column : List ℕ
 column = array 64 (7 ∷ 8 ∷ 9 ∷ [])
 
 -- `in_rank`: what the way back would give, 8, 9, 7 for 9, 7, 8
-rank_order_turned_round : (κs : _) → RuledOut in-rank.ended in-rank.Reads.Pre in-rank.Reads.Post κs
+rank_order_turned_round : (κs : _) → RuledOut in_rank_contract.ended in_rank_proof.Reads.Pre in_rank_proof.Reads.Post κs
     (lent 1 (ranks_of period 3), (3, (lent 2 column, tt))) (array 64 (8 ∷ 9 ∷ 7 ∷ []), _)
 unfolding blank filled tab first count rank_of ranks_of in_rank
 rank_order_turned_round κs = ((omega arith, (period, refl)), at 0 refl)
 
 -- `in_rows`: what the way there would give, 9, 7, 8 for 8, 9, 7
-row_order_turned_round : (κs : _) → RuledOut in_rows.ended in_rows.Reads.Pre in_rows.Reads.Post κs
+row_order_turned_round : (κs : _) → RuledOut in_rows_contract.ended in_rows_proof.Reads.Pre in_rows_proof.Reads.Post κs
     (lent 1 (ranks_of period 3), (3, (lent 2 column, tt))) (array 64 (9 ∷ 7 ∷ 8 ∷ []), _)
 unfolding blank filled tab count rank_of ranks_of in_rows
 row_order_turned_round κs = ((omega arith, (period, refl)), at 0 refl)
 
 -- `numbers_to`: one number too many
-one_number_too_many : (κs : _) (n : ℕ) → n < 64 → RuledOut numbers-to.ended numbers-to.Reads.Pre numbers-to.Reads.Post κs (n, tt) (numbers_to (n + 1), _)
+one_number_too_many : (κs : _) (n : ℕ) → n < 64 → RuledOut numbers_to_contract.ended numbers_to_proof.Reads.Pre numbers_to_proof.Reads.Post κs (n, tt) (numbers_to (n + 1), _)
 unfolding numbers_to
 one_number_too_many κs n h =
     let number : ℕ → ℕ = λ i. i + 1 in
@@ -158,35 +189,35 @@ one_number_too_many κs n h =
 -- ---- bounds
 
 -- the first term of lane 1, of period 10 and length 2
-abbrev first_term : (κs : Lfts (add_term.ended).signature.lifetimes) → Args (add_term.ended).signature κs
-first_term κs = (lent 1 (blank 1088 0), (lent 2 (blank 1088 0), (lent 3 (blank 17 0), (1, (10, (2, tt))))))
+abbrev first_term : (κs : Lfts (add_term_contract.ended).signature.lifetimes) → Args (add_term_contract.ended).signature κs
+first_term κs = (lent_mut 1 (blank 1088 0), (lent_mut 2 (blank 1088 0), (lent_mut 3 (blank 17 0), (1, (10, (2, tt))))))
 
 -- `add_term`: the term is stored, and the count of the lane stays
-lane_count_kept : (κs : _) → RuledOut add_term.ended add_term.Reads.Pre add_term.Reads.Post κs
+lane_count_kept : (κs : _) → RuledOut add_term_contract.ended add_term_proof.Reads.Pre add_term_proof.Reads.Post κs
     (first_term κs) (tt, (set (blank 1088 0) 64 10, (set (blank 1088 0) 64 2, (blank 17 0, _))))
 unfolding blank
 lane_count_kept κs = ((omega arith, omega arith, refl, refl), λ p. at 1 refl p.2)
 
 -- `add_term`: the term is stored in the lane beside it
-term_in_lane_beside : (κs : _) → RuledOut add_term.ended add_term.Reads.Pre add_term.Reads.Post κs
+term_in_lane_beside : (κs : _) → RuledOut add_term_contract.ended add_term_proof.Reads.Pre add_term_proof.Reads.Post κs
     (first_term κs) (tt, (set (blank 1088 0) 0 10, (set (blank 1088 0) 0 2, (set (blank 17 0) 1 1, _))))
 unfolding blank
 term_in_lane_beside κs = ((omega arith, omega arith, refl, refl), λ p. at 64 refl p.0)
 
 -- `no_lanes`: another number at each place
-lanes_of_another_number : (κs : _) (x : ℕ) → RuledOut no-lanes.ended no-lanes.Reads.Pre no-lanes.Reads.Post κs tt (blank 1088 (suc x), _)
+lanes_of_another_number : (κs : _) (x : ℕ) → RuledOut no_lanes_contract.ended no_lanes_proof.Reads.Pre no_lanes_proof.Reads.Post κs tt (blank 1088 (suc x), _)
 unfolding blank
 lanes_of_another_number κs x = (tt, at 0 (eqb-suc-zero x))
 
 -- `no_lanes`: the last place left out
-lanes_but_the_last : (κs : _) → RuledOut no-lanes.ended no-lanes.Reads.Pre no-lanes.Reads.Post κs tt (set (blank 1088 0) 1087 1, _)
+lanes_but_the_last : (κs : _) → RuledOut no_lanes_contract.ended no_lanes_proof.Reads.Pre no_lanes_proof.Reads.Post κs tt (set (blank 1088 0) 1087 1, _)
 unfolding blank
 lanes_but_the_last κs = (tt, at 1087 refl)
 
 -- ---- spread
 
 -- `used`: the highest number of a used resource, 3, and not how many there are
-highest_for_count : (κs : _) → RuledOut used.ended used.Reads.Pre used.Reads.Post κs (lent 1 (array 17 (0 ∷ 0 ∷ 0 ∷ 5 ∷ [])), tt) (3, _)
+highest_for_count : (κs : _) → RuledOut used_contract.ended used_proof.Reads.Pre used_proof.Reads.Post κs (lent 1 (array 17 (0 ∷ 0 ∷ 0 ∷ 5 ∷ [])), tt) (3, _)
 unfolding blank count used_of
 highest_for_count κs = (tt, λ p. seen (λ u. u) refl p.0)
 
@@ -195,7 +226,7 @@ abbrev weight : List ℕ
 weight = array 17 (0 ∷ 5 ∷ 9 ∷ [])
 
 -- `heaviest`: the lightest first
-lightest_first : (κs : _) → RuledOut heaviest.ended heaviest.Reads.Pre heaviest.Reads.Post κs
+lightest_first : (κs : _) → RuledOut heaviest_contract.ended heaviest_proof.Reads.Pre heaviest_proof.Reads.Post κs
     (lent 1 weight, tt) (array 64 (3 ∷ 4 ∷ 5 ∷ 6 ∷ 7 ∷ 8 ∷ 9 ∷ 10 ∷ 11 ∷ 12 ∷ 13 ∷ 14 ∷ 15 ∷ 16 ∷ 1 ∷ 2 ∷ []), _)
 unfolding blank filled tab first count rank_of ranks_of in_rank numbers_to lacks_of heaviest_of
 lightest_first κs = ((λ r h. omega (arith, below weight r)), at 0 refl)
@@ -210,13 +241,13 @@ abbrev resource : List ℕ
 resource = array 64 (0 ∷ 2 ∷ [])
 
 -- `of_resource`: the row without a resource gets what resource 1 has
-none_gets_first : (κs : _) → RuledOut of_resource_lem.ended of_resource_lem.Reads.Pre of_resource_lem.Reads.Post κs
+none_gets_first : (κs : _) → RuledOut of_resource_contract.ended of_resource_proof.Reads.Pre of_resource_proof.Reads.Post κs
     (lent 1 ceiling, (lent 2 resource, (2, tt))) (array 64 (3 ∷ 4 ∷ []), _)
 unfolding blank filled tab
 none_gets_first κs = ((omega arith, λ k h. omega (arith, below resource k)), at 0 refl)
 
 -- `of_resource`: resources are counted from 0
-resource_before : (κs : _) → RuledOut of_resource_lem.ended of_resource_lem.Reads.Pre of_resource_lem.Reads.Post κs
+resource_before : (κs : _) → RuledOut of_resource_contract.ended of_resource_proof.Reads.Pre of_resource_proof.Reads.Post κs
     (lent 1 ceiling, (lent 2 resource, (2, tt))) (array 64 (64 ∷ 3 ∷ []), _)
 unfolding blank filled tab
 resource_before κs = ((omega arith, λ k h. omega (arith, below resource k)), at 1 refl)
@@ -225,7 +256,7 @@ resource_before κs = ((omega arith, λ k h. omega (arith, below resource k)), a
 
 -- `taken_apart`: the row before the tick
 row_before_tick : (κs : _) → RuledOut taken-apart.ended apart_asks apart_says κs
-    (lent 1 (record { tick = 5; row = 1; len1 = 2; len2 = 3; len3 = 4 } ∷ []), (lent 2 (array 20480 []), tt))
+    (lent 1 (record { tick = 5; row = 1; len1 = 2; len2 = 3; len3 = 4 } ∷ []), (lent_mut 2 (array 20480 []), tt))
     (tt, (_, (array 20480 (1 ∷ 5 ∷ 2 ∷ 3 ∷ 4 ∷ []), _)))
 unfolding blank joined flat_of
 row_before_tick κs = (length_array 20480 [] (omega arith), at 0 refl)
@@ -238,23 +269,23 @@ flat_whole : length flat ≡ 20480
 flat_whole = length_array 20480 (5 ∷ 1 ∷ 2 ∷ 3 ∷ 4 ∷ 6 ∷ 2 ∷ 7 ∷ 8 ∷ 9 ∷ []) (omega arith)
 
 -- `comes`: an arrival behind the last one comes
-comes_behind_the_last : (κs : _) → RuledOut comes.ended comes.Reads.Pre comes.Reads.Post κs
+comes_behind_the_last : (κs : _) → RuledOut comes_contract.ended comes_proof.Reads.Pre comes_proof.Reads.Post κs
     (lent 1 flat, (1, (1, (6, (1, tt))))) (true, _)
 comes_behind_the_last κs = ((omega arith, omega arith, flat_whole), seen (λ b. cond b 1 0) refl)
 
 -- `comes`: the row is compared, and the tick is not
-comes_at_any_tick : (κs : _) → RuledOut comes.ended comes.Reads.Pre comes.Reads.Post κs (lent 1 flat, (2, (0, (6, (0, tt))))) (true, _)
+comes_at_any_tick : (κs : _) → RuledOut comes_contract.ended comes_proof.Reads.Pre comes_proof.Reads.Post κs (lent 1 flat, (2, (0, (6, (0, tt))))) (true, _)
 unfolding tab is_of arrival_in arrivals_of
 comes_at_any_tick κs = ((omega arith, omega arith, flat_whole), seen (λ b. cond b 1 0) refl)
 
 -- `lens_at`: the lengths of the next arrival
-lens_of_the_next : (κs : _) → RuledOut lens-at.ended lens-at.Reads.Pre lens-at.Reads.Post κs
+lens_of_the_next : (κs : _) → RuledOut lens_at_contract.ended lens_at_proof.Reads.Pre lens_at_proof.Reads.Post κs
     (lent 1 flat, (2, (0, tt))) (7 ∷ 8 ∷ 9 ∷ [], _)
 unfolding tab arrival_in arrivals_of
 lens_of_the_next κs = ((omega arith, omega arith, flat_whole), at 0 refl)
 
 -- `lens_at`: the lengths of the two stages change places
-lens_swapped : (κs : _) → RuledOut lens-at.ended lens-at.Reads.Pre lens-at.Reads.Post κs (lent 1 flat, (2, (0, tt))) (4 ∷ 3 ∷ 2 ∷ [], _)
+lens_swapped : (κs : _) → RuledOut lens_at_contract.ended lens_at_proof.Reads.Pre lens_at_proof.Reads.Post κs (lent 1 flat, (2, (0, tt))) (4 ∷ 3 ∷ 2 ∷ [], _)
 unfolding tab arrival_in arrivals_of
 lens_swapped κs = ((omega arith, omega arith, flat_whole), at 0 refl)
 
@@ -276,63 +307,63 @@ good_job : {left begun ended ran : ℕ} → GoodJob (job left begun ended ran)
 good_job = record { arrived = omega arith; part = omega arith }
 
 -- `due_of`: the tick of the arrival, and not that of the next release
-due_at_arrival : (κs : _) → RuledOut due-of.ended due-of.Reads.Pre due-of.Reads.Post κs (lent 1 bounds, (0, (job 3 11 0 1, tt))) (10, _)
+due_at_arrival : (κs : _) → RuledOut due_of_contract.ended due_of_proof.Reads.Pre due_of_proof.Reads.Post κs (lent 1 bounds, (0, (job 3 11 0 1, tt))) (10, _)
 unfolding blank off due_at
 due_at_arrival κs = ((omega arith, good_bounds, good_job), seen (λ t. t) refl)
 
 -- `response`: that of the section, from the arrival on and not from its release
-response_since_arrival : (κs : _) → RuledOut response.ended response.Reads.Pre response.Reads.Post κs (lent 1 bounds, (0, (16, (10, (1, tt))))) (7, _)
+response_since_arrival : (κs : _) → RuledOut response_contract.ended response_proof.Reads.Pre response_proof.Reads.Post κs (lent 1 bounds, (0, (16, (10, (1, tt))))) (7, _)
 unfolding blank off
 response_since_arrival κs = ((omega arith, good_bounds, omega arith, omega arith, omega arith), seen (λ t. t) refl)
 
 -- `push`: a part that has run before is marked as begun in this tick
-begun_again : (κs : _) → RuledOut push.ended push.Reads.Pre push.Reads.Post κs (job 3 11 0 1, (11, (2, tt))) (job 1 12 0 3, _)
+begun_again : (κs : _) → RuledOut push_contract.ended push_proof.Reads.Pre push_proof.Reads.Post κs (job 3 11 0 1, (11, (2, tt))) (job 1 12 0 3, _)
 unfolding mark pushed push_at
 begun_again κs = ((omega arith, omega arith, λ j l e. let h : 3 ≡ l = cc in omega arith), seen (λ x. x.begun) refl)
 
 -- `owed`: what is left of the running part, without the parts not yet released
-only_running_owed : (κs : _) → RuledOut owed.ended owed.Reads.Pre owed.Reads.Post κs (job 3 11 0 1, tt) (3, _)
+only_running_owed : (κs : _) → RuledOut owed_contract.ended owed_proof.Reads.Pre owed_proof.Reads.Post κs (job 3 11 0 1, tt) (3, _)
 unfolding lens_from owes
 only_running_owed κs = (good_job, λ p. seen (λ u. u) refl p.0)
 
 -- `owed`: the whole of the running part, though a unit of it has run
-whole_part_owed : (κs : _) → RuledOut owed.ended owed.Reads.Pre owed.Reads.Post κs (job 3 11 0 1, tt) (9, _)
+whole_part_owed : (κs : _) → RuledOut owed_contract.ended owed_proof.Reads.Pre owed_proof.Reads.Post κs (job 3 11 0 1, tt) (9, _)
 unfolding lens_from owes
 whole_part_owed κs = (good_job, λ p. seen (λ u. u) refl p.0)
 
 -- ---- jobs
 
 -- `no_jobs`: another number at each place
-jobs_of_another_number : (κs : _) (x : ℕ) → RuledOut no-jobs.ended no-jobs.Reads.Pre no-jobs.Reads.Post κs tt (blank 576 (suc x), _)
+jobs_of_another_number : (κs : _) (x : ℕ) → RuledOut no_jobs_contract.ended no_jobs_proof.Reads.Pre no_jobs_proof.Reads.Post κs tt (blank 576 (suc x), _)
 unfolding blank
 jobs_of_another_number κs x = (tt, at 0 (eqb-suc-zero x))
 
 -- `no_jobs`: the last place left out
-jobs_but_the_last : (κs : _) → RuledOut no-jobs.ended no-jobs.Reads.Pre no-jobs.Reads.Post κs tt (set (blank 576 0) 575 1, _)
+jobs_but_the_last : (κs : _) → RuledOut no_jobs_contract.ended no_jobs_proof.Reads.Pre no_jobs_proof.Reads.Post κs tt (set (blank 576 0) 575 1, _)
 unfolding blank
 jobs_but_the_last κs = (tt, at 575 refl)
 
 -- `job_at`: the begun mark and the jobs ended change places
-begun_and_ended_swapped : (κs : _) → RuledOut job-at.ended job-at.Reads.Pre job-at.Reads.Post κs
+begun_and_ended_swapped : (κs : _) → RuledOut job_at_contract.ended job_at_proof.Reads.Pre job_at_proof.Reads.Post κs
     (lent 1 (array 576 (4 ∷ 3 ∷ 10 ∷ 4 ∷ 3 ∷ 2 ∷ 11 ∷ 1 ∷ 10 ∷ [])), (0, tt)) (job 3 1 11 10, _)
 unfolding blank job_in
 begun_and_ended_swapped κs = ((omega arith, refl), seen (λ x. x.begun) refl)
 
 -- `put_job`: ten numbers are written, the last of them over the next row's first
-next_row_overwritten : (κs : _) → RuledOut put-job.ended put-job.Reads.Pre put-job.Reads.Post κs
-    (lent 1 (blank 576 1), (0, (no_job, tt))) (tt, (sets (blank 576 1) 0 (blank 10 0), _))
+next_row_overwritten : (κs : _) → RuledOut put_job_contract.ended put_job_proof.Reads.Pre put_job_proof.Reads.Post κs
+    (lent_mut 1 (blank 576 1), (0, (no_job, tt))) (tt, (sets (blank 576 1) 0 (blank 10 0), _))
 unfolding blank code_of number_of numbers_of
 next_row_overwritten κs = ((omega arith, refl, omega arith), at 9 refl)
 
 -- ---- machine
 
 -- `no_threes`: another number at each place
-threes_of_another_number : (κs : _) (x : ℕ) → RuledOut no-threes.ended no-threes.Reads.Pre no-threes.Reads.Post κs tt (blank 192 (suc x), _)
+threes_of_another_number : (κs : _) (x : ℕ) → RuledOut no_threes_contract.ended no_threes_proof.Reads.Pre no_threes_proof.Reads.Post κs tt (blank 192 (suc x), _)
 unfolding blank
 threes_of_another_number κs x = (tt, at 0 (eqb-suc-zero x))
 
 -- `no_threes`: the last place left out
-threes_but_the_last : (κs : _) → RuledOut no-threes.ended no-threes.Reads.Pre no-threes.Reads.Post κs tt (set (blank 192 0) 191 1, _)
+threes_but_the_last : (κs : _) → RuledOut no_threes_contract.ended no_threes_proof.Reads.Pre no_threes_proof.Reads.Post κs tt (set (blank 192 0) 191 1, _)
 unfolding blank
 threes_but_the_last κs = (tt, at 191 refl)
 
@@ -355,30 +386,30 @@ good_table = record { rows = (omega arith, omega arith); processors = (omega ari
     tasks (suc k) h = absurd (omega arith)
 
 -- `chart_of`: the section on the processor of the stages
-section_among_stages : (κs : _) → RuledOut chart-of.ended chart-of.Reads.Pre chart-of.Reads.Post κs
+section_among_stages : (κs : _) → RuledOut chart_of_contract.ended chart_of_proof.Reads.Pre chart_of_proof.Reads.Post κs
     (table, (plan, tt)) (chart 1 2 (array 192 (1 ∷ 2 ∷ 1 ∷ [])) (array 192 (2 ∷ 2 ∷ 2 ∷ [])) table.rank (tops_of table), _)
 unfolding blank filled tab joined ranked threes chart_of
 section_among_stages κs = (good_table, seen (λ c. get_or c.homes 1 0) refl)
 
 -- `soonest`: the latest of the ticks
-latest_for_soonest : (κs : _) → RuledOut soonest.ended soonest.Reads.Pre soonest.Reads.Post κs (lent 1 (array 64 (5 ∷ 7 ∷ [])), (2, tt)) (7, _)
+latest_for_soonest : (κs : _) → RuledOut soonest_contract.ended soonest_proof.Reads.Pre soonest_proof.Reads.Post κs (lent 1 (array 64 (5 ∷ 7 ∷ [])), (2, tt)) (7, _)
 unfolding blank soonest_of
 latest_for_soonest κs = ((omega arith, refl), seen (λ t. t) refl)
 
 -- `soonest`: later than every tick, whatever is due
-never_for_soonest : (κs : _) → RuledOut soonest.ended soonest.Reads.Pre soonest.Reads.Post κs (lent 1 (array 64 (5 ∷ 7 ∷ [])), (2, tt)) (never, _)
+never_for_soonest : (κs : _) → RuledOut soonest_contract.ended soonest_proof.Reads.Pre soonest_proof.Reads.Post κs (lent 1 (array 64 (5 ∷ 7 ∷ [])), (2, tt)) (never, _)
 unfolding blank soonest_of
 never_for_soonest κs = ((omega arith, refl), seen (λ t. t) refl)
 
 -- `serve_job`: two units in one tick
-two_units : (κs : _) → RuledOut serve-job.ended serve-job.Reads.Pre serve-job.Reads.Post κs
+two_units : (κs : _) → RuledOut serve_job_contract.ended serve_job_proof.Reads.Pre serve_job_proof.Reads.Post κs
     (job 3 11 0 1, (0, (lent 1 (array 17 (0 ∷ 1 ∷ [])), (lent 2 bounds, (lent 3 (blank 192 1), (11, tt)))))) (job 1 11 0 3, _)
 unfolding blank mark unit_of serve_at
 two_units κs = ((omega arith, omega arith, good_bounds, (λ k. omega (arith, below (blank 192 1) k)), good_job, omega arith, omega arith), seen (λ x. x.ran) refl)
 
 -- `note`: the smaller one of the response, 4, and the worst before, 1
-smaller_response_kept : (κs : _) → RuledOut note.ended note.Reads.Pre note.Reads.Post κs
-    (job 1 11 0 3, (0, (lent 1 bounds, (13, (lent 2 (array 192 (1 ∷ [])), tt))))) (tt, (_, (_, (_, (_, (array 192 (1 ∷ []), _))))))
+smaller_response_kept : (κs : _) → RuledOut note_contract.ended note_proof.Reads.Pre note_proof.Reads.Post κs
+    (job 1 11 0 3, (0, (lent 1 bounds, (13, (lent_mut 2 (array 192 (1 ∷ [])), tt))))) (tt, (_, (_, (_, (_, (array 192 (1 ∷ []), _))))))
 unfolding blank off noted_at
 smaller_response_kept κs = ((omega arith, omega arith, good_bounds, good_job, refl), at 0 refl)
 
@@ -399,8 +430,8 @@ unfolding job_in
 good_in flat h i = record { arrived = omega (arith, below flat (9 * i + 2)); part = part_in _ _ (omega (arith, below flat (9 * i))) }
 
 -- `show`: the byte of processor 0 first, so that each byte is a place too late
-bytes_from_processor_0 : (κs : _) → RuledOut show.ended show.Reads.Pre show.Reads.Post κs
-    (lent 1 jobs, (lent 2 (array 17 (0 ∷ 1 ∷ 2 ∷ [])), (lent 3 (blank 2 0), tt))) (tt, (_, (_, (0x00 ∷ 0x40 ∷ [], _))))
+bytes_from_processor_0 : (κs : _) → RuledOut show_contract.ended show_proof.Reads.Pre show_proof.Reads.Post κs
+    (lent 1 jobs, (lent 2 (array 17 (0 ∷ 1 ∷ 2 ∷ [])), (lent_mut 3 (blank 2 0), tt))) (tt, (_, (_, (0x00 ∷ 0x40 ∷ [], _))))
 unfolding blank tab place_in job_in jobs_in kind_of byte_of
 bytes_from_processor_0 κs = ((refl, omega arith, (λ q. omega (arith, below (array 17 (0 ∷ 1 ∷ 2 ∷ [])) q)), λ i h. good_in jobs (omega arith) i), at 0 refl)
 
@@ -408,24 +439,24 @@ bytes_from_processor_0 κs = ((refl, omega arith, (λ q. omega (arith, below (ar
 
 -- `kieferntuch_run`: a call that is refused for its table, here without bytes, leaves zeros in the trace
 wiped_on_refusal : (κs : _) (arrivals : List Arrival) → RuledOut run.ended run_asks run_says κs
-    (lent 1 [], (lent 2 arrivals, (0, (1, (lent 3 (blank 2 0xAA), tt))))) (refused 1 0 0 0, (_, (_, (_, (_, (blank 2 0, _))))))
+    (lent 1 [], (lent 2 arrivals, (0, (1, (lent_mut 3 (blank 2 0xAA), tt))))) (refused 1 0 0 0, (_, (_, (_, (_, (blank 2 0, _))))))
 unfolding blank header_number reading_of trace_after
 wiped_on_refusal κs arrivals = (tt, λ p. at 0 refl p.1)
 
 -- `kieferntuch_run`: refusal 11 of Q on two processors has the mark, 2, in the place of the value, which is 12
 mark_for_the_value : (κs : _) (arrivals : List Arrival) → RuledOut run.ended run_asks run_says κs
-    (lent 1 (written (Q 2 4)), (lent 2 arrivals, (0, (1, (lent 3 (blank 2 0xAA), tt))))) (refused 11 2 2 2, (_, (_, (_, (_, (blank 2 0xAA, _))))))
+    (lent 1 (written (Q 2 4)), (lent 2 arrivals, (0, (1, (lent_mut 3 (blank 2 0xAA), tt))))) (refused 11 2 2 2, (_, (_, (_, (_, (blank 2 0xAA, _))))))
 unfolding planning table_answer run_answer
 mark_for_the_value κs arrivals = (tt, λ p. seen (λ r. r.value) refl p.0)
 
 -- `kieferntuch_plan`: refusal 11 of Q on two processors without its value
-value_left_out : (κs : _) → RuledOut planner.ended planner.Reads.Pre planner.Reads.Post κs
-    (lent 1 (written (Q 2 4)), (0, (lent 2 (blank 30 0), tt))) (answer 11 2 2 0, (_, (_, (blank 30 0, _))))
+value_left_out : (κs : _) → RuledOut kieferntuch_plan_contract.ended kieferntuch_plan_proof.Reads.Pre kieferntuch_plan_proof.Reads.Post κs
+    (lent 1 (written (Q 2 4)), (0, (lent_mut 2 (blank 30 0), tt))) (answer 11 2 2 0, (_, (_, (blank 30 0, _))))
 unfolding planning plan_answer
 value_left_out κs = (tt, λ p. seen (λ r. r.value) refl p.0)
 
 -- `kieferntuch_plan`: the value, 6, of the first of two trials, and not that of the last, 3
-value_of_the_first_trial : (κs : _) → RuledOut planner.ended planner.Reads.Pre planner.Reads.Post κs
-    (lent 1 (written (3, PCP, (5, 1, 3, 1, 1) ∷ (5, 1, 3, 1, 2) ∷ [])), (0, (lent 2 (blank 30 0), tt))) (answer 11 2 2 6, (_, (_, (blank 30 0, _))))
+value_of_the_first_trial : (κs : _) → RuledOut kieferntuch_plan_contract.ended kieferntuch_plan_proof.Reads.Pre kieferntuch_plan_proof.Reads.Post κs
+    (lent 1 (written (3, PCP, (5, 1, 3, 1, 1) ∷ (5, 1, 3, 1, 2) ∷ [])), (0, (lent_mut 2 (blank 30 0), tt))) (answer 11 2 2 6, (_, (_, (blank 30 0, _))))
 unfolding planning plan_answer
 value_of_the_first_trial κs = (tt, λ p. seen (λ r. r.value) refl p.0)
