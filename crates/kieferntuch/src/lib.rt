@@ -1,4 +1,4 @@
-// What C and Rust link: `rt staticlib kieferntuch` makes libkieferntuch.a, and include/kieferntuch.h declares the functions.
+// What C and Rust call, by the exports of kieferntuch_c; include/kieferntuch.h declares the functions.
 #![tactic(auto)]
 
 ghost use Rattle.std.specs.Prelude.{◌≡◌, not, ◌+◌, ◌*◌, ◌<◌, ◌≤◌, length};
@@ -36,8 +36,7 @@ fn reply(number: u32, names: u32, mark: u32, value: u32) -> Answer
 }
 
 // Reads a table from any bytes.
-#[unsafe(no_mangle)]
-pub extern "C" fn kieferntuch_read(table: &[u8]) -> Answer
+pub fn kieferntuch_read(table: &[u8]) -> Answer
     ensures { result ≡ answer_of (reading_of table.now) }
 {
     let no = table::refusal_of(table);
@@ -79,8 +78,7 @@ fn write_at(sheet: &mut [u8], at: usize, n: usize, m: usize, p: Plan)
 }
 
 // Plans a table from any bytes, and writes the plan from byte at of the sheet on.
-#[unsafe(no_mangle)]
-pub extern "C" fn kieferntuch_plan(table: &[u8], at: usize, sheet: &mut [u8]) -> Answer
+pub fn kieferntuch_plan(table: &[u8], at: usize, sheet: &mut [u8]) -> Answer
     ensures { (result ≡ plan_answer (reading_of table.now) at (length sheet.old)) × (sheet.new ≡ sheet_after (reading_of table.now) at sheet.old) }
 {
     let r = table::read_table(table);
@@ -109,8 +107,7 @@ fn no_flat() -> [u32; 20480]
 }
 
 // Runs the planned table from any bytes: steps ticks 0 to from + ticks - 1 and writes those of the window into the trace.
-#[unsafe(no_mangle)]
-pub extern "C" fn kieferntuch_run(
+pub fn kieferntuch_run(
     table: &[u8],
     arrivals: &[Arrival],
     from: usize,
