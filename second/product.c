@@ -1,8 +1,7 @@
 /* The C half of `second compare`: the product's functions, asked over standard input and output.
 
-   libkieferntuch.a holds x86-64 code, and the second program runs on Arm too, where it cannot link
-   that. So this program links the archive, tools/run runs it on either, and the Rust half
-   (src/product.rs) asks it over pipes until the input ends.
+   This program links the archive through the header that users have, tools/run runs it, and the Rust
+   half (src/product.rs) asks it over pipes until the input ends.
 
    Request: a byte that names the function, a byte of flags, the table's length and its bytes.
    Function 'r' is kieferntuch_read. Its answer: number, names, mark and value, 4 bytes each.
@@ -23,7 +22,7 @@
 
    Exit code: 0 when the input ends, 1 on a broken request, 2 when memory or the output fails.
 
-   On Arm there are no headers of an x86-64 system, so what is used of the C library stands here. */
+   With the kit alone there are no headers of the C library, so what is used of it stands here. */
 
 #include "kieferntuch.h"
 

@@ -10,7 +10,7 @@
 
    Exit code: 0, or 1 if something is not as it has to be, or 2 if there is no memory.
 
-   On Arm there are no headers of an x86-64 system, so what is used of the C library stands here. */
+   With the kit alone there are no headers of the C library, so what is used of it stands here. */
 
 #include "cases.h"
 
@@ -556,7 +556,7 @@ static uint64_t draw(uint64_t below)
 }
 
 /* A call of cases.h, and which function it is for. Of runs fifteen of sixteen are left out: each clears
-   some 100 KB, which takes long under an emulator. */
+   some 100 KB. */
 static const call *draw_call(function *which)
 {
     const call *call;

@@ -20,7 +20,7 @@
 
    Exit code: 0, or 1 on broken input, or 2 when memory, the clock or the output fails.
 
-   On Arm there are no headers of an x86-64 system, so what is used of the C library stands here. */
+   With the kit alone there are no headers of the C library, so what is used of it stands here. */
 
 #include "kieferntuch.h"
 
@@ -40,26 +40,6 @@ kieferntuch_answer second_plan(const uint8_t *table, size_t table_length, size_t
                                size_t sheet_length);
 kieferntuch_ran second_run(const uint8_t *table, size_t table_length, const kieferntuch_arrival *arrivals,
                            size_t arrival_count, size_t from, size_t ticks, uint8_t *trace, size_t trace_length);
-
-/* The product's run. An answer of this size goes through memory that the caller has for it. The
-   product's module hands the place over as x86-64 does, as the first argument, also where it is
-   compiled for Arm; C for Arm would take a register of its own for it. */
-#ifdef __aarch64__
-kieferntuch_ran *run_to(kieferntuch_ran *answer, const uint8_t *table, size_t table_length,
-                        const kieferntuch_arrival *arrivals, size_t arrival_count, size_t from, size_t ticks,
-                        uint8_t *trace, size_t trace_length) __asm__("kieferntuch_run");
-
-static kieferntuch_ran product_run(const uint8_t *table, size_t table_length, const kieferntuch_arrival *arrivals,
-                                   size_t arrival_count, size_t from, size_t ticks, uint8_t *trace,
-                                   size_t trace_length)
-{
-    kieferntuch_ran answer;
-    run_to(&answer, table, table_length, arrivals, arrival_count, from, ticks, trace, trace_length);
-    return answer;
-}
-#else
-#define product_run kieferntuch_run
-#endif
 
 /* How the two were compiled; the build names it. */
 static const char how[] = HOW;
@@ -166,7 +146,7 @@ static kieferntuch_answer plan(side side, const call *call)
 static kieferntuch_ran run(side side, const call *call)
 {
     const lent *table = &call->table;
-    return (side == PRODUCT ? product_run : second_run)(table->bytes, table->length, call->arrivals,
+    return (side == PRODUCT ? kieferntuch_run : second_run)(table->bytes, table->length, call->arrivals,
                                                             call->arrival_count, work.from, work.ticks, work.out.bytes,
                                                             work.out.length);
 }
