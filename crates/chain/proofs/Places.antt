@@ -1,15 +1,10 @@
 -- A job's place: which part it runs, or that it runs none.
 use Prim.Native.Nat.{ℕ, ◌<◌}
 use mathlib.Core.Path.{◌≡◌, refl, ap}
-use mathlib.Core.List.{[], ◌∷◌}
-use mathlib.Core.Logic.{⊎_elim}
 use native.Mathlib.Omega.{arith}
-use types.Run.{OneOf}
-use denote.Enum.Declared.{tag_of}
 use Rattle.chain.specs.declared.Place.{Place}
 use Rattle.chain.specs.declared.Place.TheVariants.{Idle, Waiting, Running}
 use Rattle.chain.specs.Good.{part_of}
-use Rattle.chain.specs.contracts.Place.{the_type}
 
 -- what holds of a task that is idle and of one that waits holds of one that does not run
 pub rests : (Q : Place → Type 0) → Q Idle → ((u j : ℕ) → Q (Waiting u j)) → (p : Place) → ((j l : ℕ) → p ≡ Running j l → ⊥) → Q p

@@ -4,7 +4,7 @@ use mathlib.Core.Path.{◌≡◌, sym, ◌∙◌, ap, subst}
 use mathlib.Core.List.{List}
 use native.Mathlib.Omega.{arith}
 use native.Mathlib.Nat.{one-mul, mod-lt, lt_of_lt_of_le}
-use borrow.Author.Rules.{rules, Fits-under}
+use borrow.Author.Rules.{Fits-under}
 use lib.Pow as Pow
 use Rattle.bits.specs.Bits.{bits_value}
 use Rattle.bits.proofs.Laws.{bits_lt, bits_within}

@@ -1,5 +1,5 @@
 -- `bits::word` meets its contract. The loop's invariant: r is the value of the i bytes passed.
-use Prim.Native.Nat.{◌+◌, ◌*◌, ◌-◌, ◌≤◌}
+use Prim.Native.Nat.{◌+◌, ◌*◌}
 use mathlib.Core.Path.{◌≡◌}
 use native.Mathlib.Omega.{arith}
 use borrow.Author.Rules.{rules}
@@ -18,19 +18,19 @@ overflow_mul-r c =
 
 pub overflow_cast-r : goal.overflow_cast-r
 overflow_cast-r c =
-    omega (arith, c.shared_slice_known-1.given (c.args.at + c.loop-i.i))
+    omega (arith, c.type_inv.bytes (c.args.at + c.loop-i.i))
 
 pub overflow_add-r-in-loop-i : goal.overflow_add-r-in-loop-i
 overflow_add-r-in-loop-i c =
     let a = c.args in
     let i = c.loop-i.i in
-    omega (arith, bits_under a.bytes.now (8 * a.at) (8 * i) 56 (omega arith), c.shared_slice_known-1.given (a.at + i))
+    omega (arith, bits_under a.bytes.now (8 * a.at) (8 * i) 56 (omega arith), c.type_inv.bytes (a.at + i))
 
 pub loop-i-preserved : goal.loop-i-preserved
 loop-i-preserved c =
     let a = c.args in
     let i = c.loop-i.i in
-    (omega arith, omega (arith, bits_byte a.bytes.now a.at i, c.shared_slice_known-1.given (a.at + i)))
+    (omega arith, omega (arith, bits_byte a.bytes.now a.at i, c.type_inv.bytes (a.at + i)))
 
 pub returns : goal.returns
 returns c =

@@ -1,10 +1,7 @@
 -- `bits::word` meets its contract. The loop's invariant: r is the value of the i bytes passed.
-use Prim.Native.Nat.{◌+◌, ◌*◌, ◌-◌, ◌≤◌}
+use Prim.Native.Nat.{◌*◌, ◌-◌, ◌≤◌}
 use mathlib.Core.Path.{◌≡◌}
-use native.Mathlib.Omega.{arith}
-use borrow.Author.Rules.{rules}
 use Rattle.bits.specs.Bits.{bits_value}
-use Rattle.bits.proofs.Laws.{bits_lt, bits_under, bits_byte}
 use Rattle.bits.proofs.word.Given as goal
 
 abbrev pub invariant-loop-i : goal.invariant-loop-i

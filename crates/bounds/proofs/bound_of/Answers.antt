@@ -1,6 +1,5 @@
 -- `bounds::bound_of` meets its contract. A length of 0 has bound 0; any other is searched for.
 use borrow.Author.Tests.{ne_eqb}
-use borrow.Author.Rules.{rules}
 use Rattle.bounds.specs.Bound.{bound_of}
 use Rattle.bounds.proofs.bound_of.Goals as goal
 

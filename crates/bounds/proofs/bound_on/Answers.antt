@@ -2,7 +2,6 @@
 use Prim.Native.Nat.{◌*◌}
 use mathlib.Core.Path.{refl}
 use native.Mathlib.Omega.{arith}
-use borrow.Author.Rules.{rules}
 use lib.ListN.{length, length-drop}
 use Rattle.bounds.specs.Terms.{lane}
 use Rattle.lists.proofs.Sets.{take_rest}

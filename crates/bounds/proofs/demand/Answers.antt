@@ -1,5 +1,4 @@
 -- `bounds::demand` meets its contract. The loop's invariant: the sum so far is `own` and what the first i terms ask for, and stays far below 2^32.
-use Prim.Native.Nat.{◌+◌, ◌*◌, ◌-◌, ◌≤◌}
 use mathlib.Core.Path.{◌≡◌}
 use native.Mathlib.Omega.{arith}
 use borrow.Author.Rules.{rules}
@@ -16,14 +15,12 @@ loop-i-init c = search rules
 
 pub share-sum-requires : goal.share-sum-requires
 share-sum-requires c =
-    let b = c in
-    let g = in_good b.args.period.now b.args.len.now b.args.n c.loop-i.i b.requires.6 (omega arith) in
+    let g = in_good c.args.period.now c.args.len.now c.args.n c.loop-i.i c.requires.6 (omega arith) in
     (search rules, search rules, g.period.0, g.period.1, g.short)
 
 pub loop-i-preserved : goal.loop-i-preserved
 loop-i-preserved c =
-    let b = c in
-    let m = demand_more b.args.period.now b.args.len.now c.loop-i.i b.args.t in
+    let m = demand_more c.args.period.now c.args.len.now c.loop-i.i c.args.t in
     (omega arith, omega arith, omega arith)
 
 pub returns : goal.returns

@@ -1,13 +1,8 @@
 -- `bounds::demand` meets its contract. The loop's invariant: the sum so far is `own` and what the first i terms ask for, and stays far below 2^32.
 use Prim.Native.Nat.{◌+◌, ◌*◌, ◌-◌, ◌≤◌}
 use mathlib.Core.Path.{◌≡◌}
-use native.Mathlib.Omega.{arith}
-use borrow.Author.Rules.{rules}
-use Rattle.lists.specs.Tab.{tab}
 use Rattle.bounds.specs.Demand.{demand}
 use Rattle.bounds.specs.Terms.{terms_in}
-use Rattle.bounds.proofs.Asked.{demand_more}
-use Rattle.bounds.proofs.Terms.{in_good}
 use Rattle.bounds.proofs.demand.Given as goal
 
 abbrev pub invariant-loop-i : goal.invariant-loop-i

@@ -1,10 +1,8 @@
 -- `bounds::least` meets its contract. The loop's invariant: t is a member of the sequence, and none before it is above the limit.
-use Prim.Native.Nat.{◌+◌, ◌-◌, ◌≤◌}
 use mathlib.Core.Path.{sym, ◌∙◌}
 use native.Mathlib.Omega.{arith}
 use borrow.Author.Rules.{rules}
 use Rattle.bounds.specs.Terms.{terms_in}
-use Rattle.bounds.specs.Sequence.{Reached}
 use Rattle.bounds.proofs.Sequence.{reached_own, reached_next, reached_up, reached_under}
 use Rattle.bounds.proofs.Search.{least_at, least_none}
 use Rattle.bounds.proofs.least.Goals as goal

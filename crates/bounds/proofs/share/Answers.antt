@@ -1,7 +1,6 @@
 -- `bounds::share` meets its contract. Within one period the quotient is 1; above it the product is below t and one period more.
 use mathlib.Core.Path.{refl, sym}
 use native.Mathlib.Omega.{arith}
-use borrow.Author.Rules.{rules}
 use Rattle.bounds.specs.Demand.{ceil}
 use Rattle.bounds.proofs.Asked.{share_le, once}
 use Rattle.bounds.proofs.share.Goals as goal

@@ -1,5 +1,4 @@
 -- `chain::admit` meets its contract.
-use borrow.Author.Rules.{rules}
 use Rattle.chain.specs.Release.{admit}
 use Rattle.chain.proofs.admit.Goals as goal
 

@@ -1,6 +1,5 @@
 -- `chain::after` meets its contract.
 use native.Mathlib.Numerals.{add-one}
-use borrow.Author.Rules.{rules}
 use borrow.Author.Tests.{lt-ltb, le-ltb}
 use Rattle.chain.specs.Unit.{next}
 use Rattle.chain.proofs.after.Goals as goal

@@ -1,32 +1,27 @@
 -- `chain::enter` meets its contract. The loop's invariant: from `part` on the job goes where it goes from `from` on.
-use Prim.Native.Nat.{◌-◌, ◌≤◌}
 use mathlib.Core.Path.{◌≡◌, sym, ◌∙◌}
 use native.Mathlib.Omega.{arith}
-use borrow.Author.Rules.{rules}
 use Rattle.chain.specs.Release.{enter}
 use Rattle.chain.proofs.Entering.{from_waits, from_runs, from_next}
 use Rattle.chain.proofs.enter.Goals as goal
 
 pub returns-then-t-due : goal.returns-then-t-due
 returns-then-t-due c =
-    let b = c in
     let l = c.loop-part in
     let e = c.release_of-due.ensures.0 in
-    rw e (sym (from_waits b.args.bounds.now b.args.i b.args.arrived b.args.lens b.args.t l.part (omega arith) (omega arith)) ∙ l.invariant.1)
+    rw e (sym (from_waits c.args.bounds.now c.args.i c.args.arrived c.args.lens c.args.t l.part (omega arith) (omega arith)) ∙ l.invariant.1)
 
 pub returns-then-len-gt0 : goal.returns-then-len-gt0
 returns-then-len-gt0 c =
-    let b = c in
     let l = c.loop-part in
     let e = c.release_of-due.ensures.0 in
-    sym (from_runs b.args.bounds.now b.args.i b.args.arrived b.args.lens b.args.t l.part (omega arith) (omega arith) c.if-len-gt0.true) ∙ l.invariant.1
+    sym (from_runs c.args.bounds.now c.args.i c.args.arrived c.args.lens c.args.t l.part (omega arith) (omega arith) c.if-len-gt0.true) ∙ l.invariant.1
 
 pub loop-part-preserved : goal.loop-part-preserved
 loop-part-preserved c =
-    let b = c in
     let l = c.loop-part in
     let e = c.release_of-due.ensures.0 in
-    (omega arith, sym (from_next b.args.bounds.now b.args.i b.args.arrived b.args.lens b.args.t l.part (omega arith) (omega arith) (omega arith)) ∙ l.invariant.1)
+    (omega arith, sym (from_next c.args.bounds.now c.args.i c.args.arrived c.args.lens c.args.t l.part (omega arith) (omega arith) (omega arith)) ∙ l.invariant.1)
 
 pub returns : goal.returns
 unfolding enter

@@ -1,10 +1,7 @@
 -- `chain::enter` meets its contract. The loop's invariant: from `part` on the job goes where it goes from `from` on.
 use Prim.Native.Nat.{◌-◌, ◌≤◌}
-use mathlib.Core.Path.{◌≡◌, sym, ◌∙◌}
-use native.Mathlib.Omega.{arith}
-use borrow.Author.Rules.{rules}
+use mathlib.Core.Path.{◌≡◌}
 use Rattle.chain.specs.Release.{enter}
-use Rattle.chain.proofs.Entering.{from_waits, from_runs, from_next}
 use Rattle.chain.proofs.enter.Given as goal
 
 abbrev pub invariant-loop-part : goal.invariant-loop-part

@@ -1,5 +1,4 @@
 -- `chain::is_idle` meets its contract.
-use borrow.Author.Rules.{rules}
 use Rattle.chain.specs.Job.{is_idle}
 use Rattle.chain.proofs.is_idle.Goals as goal
 

@@ -1,5 +1,4 @@
 -- `chain::lens_from` meets its contract. The loop's invariant: the sum, with the lengths from part j on, is what is asked for.
-use Prim.Native.Nat.{◌+◌, ◌*◌, ◌-◌, ◌≤◌}
 use mathlib.Core.Path.{◌≡◌}
 use native.Mathlib.Omega.{arith}
 use native.Mathlib.Numerals.{add-one}
@@ -7,7 +6,6 @@ use borrow.Author.Rules.{rules}
 use mir.Syntax.{w32}
 use mir.Val.{Fits}
 use lib.ListN.{get_or, length}
-use Rattle.chain.specs.Owed.{lens_from}
 use Rattle.chain.proofs.Counts.{lens_step, lens_none}
 use Rattle.chain.proofs.lens_from.Goals as goal
 

@@ -1,7 +1,6 @@
 -- `chain::mark` meets its contract.
 use native.Mathlib.Numerals.{add-one}
 use mathlib.Core.Path.{sym}
-use borrow.Author.Rules.{rules}
 use Rattle.chain.specs.Unit.{mark}
 use Rattle.chain.proofs.Pushed.{mark_stays}
 use Rattle.chain.proofs.mark.Goals as goal

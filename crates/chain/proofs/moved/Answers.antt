@@ -1,6 +1,5 @@
 -- `chain::moved` meets its contract.
 use native.Mathlib.Nat.{add-zero}
-use borrow.Author.Rules.{rules}
 use Rattle.chain.specs.Job.{moved}
 use Rattle.chain.proofs.moved.Goals as goal
 

@@ -1,7 +1,6 @@
 -- `chain::overdue` meets its contract.
 use mathlib.Core.Path.{sym, ◌∙◌, ap}
 use native.Mathlib.Numerals.{add-one}
-use borrow.Author.Rules.{rules}
 use borrow.Author.Tests.{lt-ltb, le-ltb}
 use Rattle.chain.specs.Release.{overdue_at}
 use Rattle.chain.proofs.overdue.Goals as goal

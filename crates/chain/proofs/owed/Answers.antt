@@ -3,7 +3,6 @@ use Prim.Native.Nat.{suc, ◌+◌}
 use mathlib.Core.Path.{◌≡◌, sym, ap}
 use native.Mathlib.Omega.{arith}
 use native.Mathlib.Numerals.{add-one}
-use borrow.Author.Rules.{rules}
 use Rattle.chain.specs.Owed.{lens_from, owes}
 use Rattle.chain.specs.Good.{part_of}
 use Rattle.chain.proofs.owed.Goals as goal

@@ -1,7 +1,6 @@
 -- `chain::push` meets its contract.
 use Prim.Native.Nat.{ℕ, zero, suc, ◌+◌, ◌-◌}
 use mathlib.Core.Path.{◌≡◌, refl, sym, ap}
-use borrow.Author.Rules.{rules}
 use Rattle.chain.specs.Job.{Place, Idle, Waiting, Running, Job}
 use Rattle.chain.specs.Unit.{mark, pushed, push_at, push}
 use Rattle.chain.proofs.Places.{rests}
@@ -31,7 +30,7 @@ returns-in_default c =
     rests (λ p. a.x ≡ push_at a.t a.k a.x p) refl (λ u j. refl) a.x.place c.in_default.not-Running
 
 pub overflow_sub-place : goal.overflow_sub-place
-overflow_sub-place c = let s = c in s.requires.2 _ _ c.in-Running.is
+overflow_sub-place c = c.requires.2 _ _ c.in-Running.is
 
 pub returns : goal.returns
 returns c =

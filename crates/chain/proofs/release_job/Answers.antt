@@ -5,8 +5,6 @@ use mathlib.Core.Bool.{Bool, true, false, cond, not, ◌||◌}
 use mathlib.Core.List.{List}
 use mathlib.Core.Option.{none, some}
 use native.Mathlib.Omega.{arith}
-use borrow.Author.Rules.{rules}
-use borrow.Author.Tests.{not-true, not-false}
 use Rattle.chain.specs.Job.{Job, is_idle}
 use Rattle.chain.specs.Release.{wake, admit, overdue, released, too_soon, late}
 use Rattle.chain.proofs.Keeps.{good_wake, ended_wake, good_arrival}
@@ -25,8 +23,7 @@ module _ (bounds ls : List ℕ) (i t : ℕ) (x w : Job) (e : w ≡ wake bounds i
 
 pub overdue-behind-requires : goal.overdue-behind-requires
 overdue-behind-requires c =
-    let b = c in
-    (b.requires.0, b.requires.1, rw c.wake-woken.ensures (good_wake b.args.bounds.now b.args.i b.args.t b.args.x b.requires.3))
+    (c.requires.0, c.requires.1, rw c.wake-woken.ensures (good_wake c.args.bounds.now c.args.i c.args.t c.args.x c.requires.3))
 
 pub returns-then-not-came : goal.returns-then-not-came
 returns-then-not-came c =
@@ -36,19 +33,16 @@ returns-then-not-came c =
 
 pub admit-job-requires : goal.admit-job-requires
 admit-job-requires c =
-    let b = c in
-    let n = ended_wake b.args.bounds.now b.args.i b.args.t b.args.x in
-    (b.requires.0, b.requires.1, b.requires.2, omega (arith, n, ap (λ (y : Job). y.ended) c.wake-woken.ensures))
+    let n = ended_wake c.args.bounds.now c.args.i c.args.t c.args.x in
+    (c.requires.0, c.requires.1, c.requires.2, omega (arith, n, ap (λ (y : Job). y.ended) c.wake-woken.ensures))
 
 pub overdue-behind-requires-2 : goal.overdue-behind-requires-2
 overdue-behind-requires-2 c =
-    let b = c in
-    (b.requires.0, b.requires.1, rw c.admit-job.ensures (good_arrival b.args.bounds.now b.args.i b.args.t _ b.requires.2 b.args.lens))
+    (c.requires.0, c.requires.1, rw c.admit-job.ensures (good_arrival c.args.bounds.now c.args.i c.args.t _ c.requires.2 c.args.lens))
 
 pub returns : goal.returns
 returns c =
-    let d = c in
-    let a = d.args in
-    let w = d.wake-woken in
+    let a = c.args in
+    let w = c.wake-woken in
     let z = c.admit-job in
-    comes a.bounds.now a.lens a.i a.t a.x w.result w.ensures a.came d.if-not-came.false z.result z.ensures d.is_idle-free.result c.overdue-behind-2.result d.is_idle-free.ensures c.overdue-behind-2.ensures
+    comes a.bounds.now a.lens a.i a.t a.x w.result w.ensures a.came c.if-not-came.false z.result z.ensures c.is_idle-free.result c.overdue-behind-2.result c.is_idle-free.ensures c.overdue-behind-2.ensures

@@ -1,10 +1,7 @@
 -- `chain::release_of` meets its contract. The loop's invariant: the tick is the one that releases part j.
-use Prim.Native.Nat.{◌+◌, ◌*◌, ◌-◌, ◌≤◌}
-use mathlib.Core.Path.{◌≡◌, sym}
-use native.Mathlib.Omega.{arith}
-use borrow.Author.Rules.{rules}
-use Rattle.chain.specs.Release.{off, release}
-use Rattle.chain.proofs.Offsets.{off_more, off_small}
+use Prim.Native.Nat.{◌-◌, ◌≤◌}
+use mathlib.Core.Path.{◌≡◌}
+use Rattle.chain.specs.Release.{release}
 use Rattle.chain.proofs.release_of.Given as goal
 
 abbrev pub invariant-loop-j : goal.invariant-loop-j

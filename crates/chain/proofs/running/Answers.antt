@@ -1,5 +1,4 @@
 -- `chain::running` meets its contract.
-use borrow.Author.Rules.{rules}
 use Rattle.chain.proofs.running.Goals as goal
 
 pub returns : goal.returns

@@ -1,7 +1,6 @@
 -- `chain::unit` meets its contract.
 use mathlib.Core.Path.{ap}
 use native.Mathlib.Omega.{arith}
-use borrow.Author.Rules.{rules}
 use borrow.Author.Tests.{lt-ltb, le-ltb}
 use Rattle.chain.specs.Job.{Job}
 use Rattle.chain.specs.Unit.{unit_of}

@@ -1,12 +1,8 @@
 -- `lists::store` meets its contract: the first k bytes are stored.
-use Prim.Native.Nat.{ℕ, ◌-◌, ◌≤◌}
-use mathlib.Core.List.{List}
-use mathlib.Core.Path.{◌≡◌, refl, ap, ◌∙◌}
-use native.Mathlib.Omega.{arith}
-use borrow.Author.Rules.{rules}
+use Prim.Native.Nat.{◌-◌, ◌≤◌}
+use mathlib.Core.Path.{◌≡◌}
 use lib.ListN.{length, take}
-use lib.Seq.{sets, length-sets, take-length}
-use Rattle.lists.proofs.Sets.{sets_more}
+use lib.Seq.{sets}
 use Rattle.lists.proofs.store.Given as goal
 
 abbrev pub invariant-loop-k : goal.invariant-loop-k

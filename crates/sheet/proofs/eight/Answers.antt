@@ -1,5 +1,5 @@
 -- `sheet::eight` meets its contract. The loop's invariant: the word says the first i fields.
-use Prim.Native.Nat.{◌+◌, ◌-◌, ◌≤◌}
+use Prim.Native.Nat.{◌+◌}
 use mathlib.Core.Path.{◌≡◌}
 use native.Mathlib.Omega.{arith}
 use borrow.Author.Rules.{rules}
@@ -15,20 +15,17 @@ loop-i-init c = search rules
 
 pub overflow_mul-word : goal.overflow_mul-word
 overflow_mul-word c =
-    let s = c in
     let l = c.loop-i in
-    omega (arith, processors-lt s.args.serves.now s.requires.1 s.args.ahead l.i (omega arith) (omega arith))
+    omega (arith, processors-lt c.args.serves.now c.requires.1 c.args.ahead l.i (omega arith) (omega arith))
 
 pub overflow_cast-word : goal.overflow_cast-word
 overflow_cast-word c =
-    let s = c in
-    omega (arith, s.requires.1 (s.args.ahead + c.loop-i.i + 1) (omega arith))
+    omega (arith, c.requires.1 (c.args.ahead + c.loop-i.i + 1) (omega arith))
 
 pub overflow_add-word-in-loop-i-2 : goal.overflow_add-word-in-loop-i-2
 overflow_add-word-in-loop-i-2 c =
-    let s = c in
     let l = c.loop-i in
-    omega (arith, s.requires.1 (s.args.ahead + l.i + 1) (omega arith), processors-lt s.args.serves.now s.requires.1 s.args.ahead l.i (omega arith) (omega arith))
+    omega (arith, c.requires.1 (c.args.ahead + l.i + 1) (omega arith), processors-lt c.args.serves.now c.requires.1 c.args.ahead l.i (omega arith) (omega arith))
 
 pub loop-i-preserved : goal.loop-i-preserved
 loop-i-preserved c =

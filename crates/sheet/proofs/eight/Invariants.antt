@@ -1,12 +1,8 @@
 -- `sheet::eight` meets its contract. The loop's invariant: the word says the first i fields.
-use Prim.Native.Nat.{◌+◌, ◌-◌, ◌≤◌}
+use Prim.Native.Nat.{◌-◌, ◌≤◌}
 use mathlib.Core.Path.{◌≡◌}
-use native.Mathlib.Omega.{arith}
-use borrow.Author.Rules.{rules}
-use Rattle.lists.specs.Tab.{tab}
 use Rattle.sheet.specs.Fields.{behind}
 use Rattle.sheet.specs.Sheet.{processor_fields}
-use Rattle.sheet.proofs.Words.{processors_more, processors-lt}
 use Rattle.sheet.proofs.eight.Given as goal
 
 abbrev pub invariant-loop-i : goal.invariant-loop-i

@@ -4,7 +4,6 @@ use mathlib.Core.Path.{sym, ◌∙◌, ap}
 use Prim.Native.Nat.{ℕ}
 use lib.Seq.{sets}
 use Rattle.sheet.proofs.Words.{header_word}
-use borrow.Author.Rules.{rules}
 use Rattle.sheet.proofs.put_header.Goals as goal
 
 pub returns : goal.returns

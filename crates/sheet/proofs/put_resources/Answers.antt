@@ -8,16 +8,12 @@ use Rattle.sheet.specs.Sheet.{resource_bytes}
 use Rattle.lists.proofs.Sets.{sets_then}
 use Rattle.sheet.proofs.Bytes.{length-bytes}
 use Rattle.sheet.proofs.Words.{resource_words}
-use borrow.Author.Rules.{rules}
 use Rattle.sheet.proofs.put_resources.Goals as goal
 
 pub returns : goal.returns
 returns c =
-    let s = c in
-    let w1 = c in
-    let w2 = c in
-    let x = w1.eight.result in
-    let y = w2.eight-2.result in
-    let e : bytes_of 5 x ++ bytes_of 5 y ≡ resource_bytes s.args.serves.now = rw (w1.eight.ensures, w2.eight-2.ensures) (sym (resource_words s.args.serves.now s.requires.1)) in
-    sets_then s.args.part.now 2 5 (bytes_of 5 x) (bytes_of 5 y) (length-bytes 5 x) w1.put_word.ensures w2.put_word-2.ensures
-    ∙ ap (λ (u : List ℕ). sets s.args.part.now 2 u) e
+    let x = c.eight.result in
+    let y = c.eight-2.result in
+    let e : bytes_of 5 x ++ bytes_of 5 y ≡ resource_bytes c.args.serves.now = rw (c.eight.ensures, c.eight-2.ensures) (sym (resource_words c.args.serves.now c.requires.1)) in
+    sets_then c.args.part.now 2 5 (bytes_of 5 x) (bytes_of 5 y) (length-bytes 5 x) c.put_word.ensures c.put_word-2.ensures
+    ∙ ap (λ (u : List ℕ). sets c.args.part.now 2 u) e

@@ -8,7 +8,6 @@ use Rattle.sheet.specs.Fields.{bytes_of}
 use Rattle.lists.proofs.Sets.{sets_then}
 use Rattle.sheet.proofs.Bytes.{length-bytes}
 use Rattle.sheet.proofs.Words.{task_words}
-use borrow.Author.Rules.{rules}
 use Rattle.sheet.proofs.put_task.Goals as goal
 
 pub returns : goal.returns

@@ -1,9 +1,7 @@
 -- `sheet::put_tasks` meets its contract. The loop's invariant: the bytes of the first k tasks are written.
-use Prim.Native.Nat.{◌-◌, ◌≤◌}
 use mathlib.Core.Path.{◌≡◌}
 use native.Mathlib.Omega.{arith}
 use borrow.Author.Rules.{rules}
-use lib.Seq.{sets}
 use Rattle.lists.specs.Tab.{joined}
 use Rattle.lists.proofs.Sets.{stored_length}
 use Rattle.lists.proofs.Joined.{joined_next}
@@ -18,9 +16,8 @@ loop-k-init c = search rules
 pub put_task-requires : goal.put_task-requires
 put_task-requires c =
     let l = c.loop-k in
-    let s = c in
-    let t = s.requires.2 l.k (omega arith) in
-    let n = stored_length s.args.part.now 12 (joined l.k (task_of s.args.processor.now s.args.d1.now s.args.section.now s.args.d2.now)) l.invariant.1 in
+    let t = c.requires.2 l.k (omega arith) in
+    let n = stored_length c.args.part.now 12 (joined l.k (task_of c.args.processor.now c.args.d1.now c.args.section.now c.args.d2.now)) l.invariant.1 in
     omega arith
 
 pub loop-k-preserved : goal.loop-k-preserved

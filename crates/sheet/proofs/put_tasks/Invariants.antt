@@ -1,14 +1,9 @@
 -- `sheet::put_tasks` meets its contract. The loop's invariant: the bytes of the first k tasks are written.
 use Prim.Native.Nat.{◌-◌, ◌≤◌}
 use mathlib.Core.Path.{◌≡◌}
-use native.Mathlib.Omega.{arith}
-use borrow.Author.Rules.{rules}
 use lib.Seq.{sets}
 use Rattle.lists.specs.Tab.{joined}
-use Rattle.lists.proofs.Sets.{stored_length}
-use Rattle.lists.proofs.Joined.{joined_next}
 use Rattle.sheet.specs.Sheet.{task_of}
-use Rattle.sheet.proofs.Words.{length_task}
 use Rattle.sheet.proofs.put_tasks.Given as goal
 
 abbrev pub invariant-loop-k : goal.invariant-loop-k

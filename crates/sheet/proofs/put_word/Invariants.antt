@@ -1,12 +1,9 @@
 -- `sheet::put_word` meets its contract. The loop's invariant: with what is left of the number stored, all of it is.
-use Prim.Native.Nat.{ℕ, ◌≤◌}
-use mathlib.Core.Path.{◌≡◌, sym, ◌∙◌, ap}
-use native.Mathlib.Omega.{arith}
-use borrow.Author.Rules.{rules}
-use lib.ListN.{length, length-set}
+use Prim.Native.Nat.{◌≤◌}
+use mathlib.Core.Path.{◌≡◌}
+use lib.ListN.{length}
 use lib.Seq.{sets}
 use Rattle.sheet.specs.Fields.{bytes_of}
-use Rattle.sheet.proofs.Bytes.{sets-bytes}
 use Rattle.sheet.proofs.put_word.Given as goal
 
 abbrev pub invariant-loop-left : goal.invariant-loop-left

@@ -4,7 +4,6 @@ use Rattle.lists.specs.Tab.{joined}
 use Rattle.sheet.specs.Sheet.{header_bytes, resource_bytes, task_of, plan_bytes}
 use Rattle.lists.proofs.Sets.{sets_then}
 use Rattle.sheet.proofs.Words.{length_header, length-resources}
-use borrow.Author.Rules.{rules}
 use Rattle.sheet.proofs.write_plan.Goals as goal
 
 pub returns : goal.returns

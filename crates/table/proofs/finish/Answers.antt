@@ -1,5 +1,4 @@
 -- `table::finish` meets its contract: ranks and ceilings are those of the columns.
-use borrow.Author.Rules.{rules}
 use Rattle.table.specs.Table.{ranked}
 use Rattle.table.proofs.finish.Goals as goal
 

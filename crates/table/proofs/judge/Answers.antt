@@ -1,7 +1,6 @@
 -- `table::judge` meets its contract. Each return has the tests that led there.
 use mathlib.Core.Bool.{xor}
 use mathlib.Core.Path.{sym, ◌∙◌}
-use borrow.Author.Rules.{rules}
 use borrow.Author.Tests.{lt-ltb, le-ltb}
 use Rattle.table.specs.Row.{judged}
 use Rattle.table.proofs.judge.Goals.{then-t-gt16-via-then-t-gt16, then-t-gt16-via-else-t-gt16+then-spare-gt0}
@@ -14,32 +13,23 @@ returns-then-outside c = simp (sym c.outside.ensures ∙ c.if-outside.true)
 pub returns-then-t-gt16 : goal.returns-then-t-gt16
 unfolding judged
 returns-then-t-gt16 c =
-    let b = c in
-    let e = sym b.outside.ensures ∙ b.if-outside.false in
+    let e = sym c.outside.ensures ∙ c.if-outside.false in
     elim c.then-t-gt16.branch [
-      then-t-gt16-via-then-t-gt16 w ↦ simp (e, lt-ltb _ _ w.if-t-gt16.true)
-    | then-t-gt16-via-else-t-gt16+then-spare-gt0 w ↦ simp (e, le-ltb _ _ w.if-t-gt16.false, lt-ltb _ _ w.if-spare-gt0.true)
+      | then-t-gt16-via-then-t-gt16 w ↦ simp (e, lt-ltb _ _ w.if-t-gt16.true)
+      | then-t-gt16-via-else-t-gt16+then-spare-gt0 w ↦ simp (e, le-ltb _ _ w.if-t-gt16.false, lt-ltb _ _ w.if-spare-gt0.true)
     ]
 
 pub returns-then-t : goal.returns-then-t
 unfolding judged xor
 returns-then-t c =
-    let d = c in
-    let b = d in
-    simp (sym b.outside.ensures ∙ b.if-outside.false, le-ltb _ _ d.if-t-gt16.false, le-ltb _ _ d.if-spare-gt0.false, c.if-t.true)
+    simp (sym c.outside.ensures ∙ c.if-outside.false, le-ltb _ _ c.if-t-gt16.false, le-ltb _ _ c.if-spare-gt0.false, c.if-t.true)
 
 pub returns-then-outside-2 : goal.returns-then-outside-2
 unfolding judged xor
 returns-then-outside-2 c =
-    let q = c in
-    let d = q in
-    let b = d in
-    simp (sym b.outside.ensures ∙ b.if-outside.false, le-ltb _ _ d.if-t-gt16.false, le-ltb _ _ d.if-spare-gt0.false, q.if-t.false, sym c.outside-2.ensures ∙ c.if-outside-2.true)
+    simp (sym c.outside.ensures ∙ c.if-outside.false, le-ltb _ _ c.if-t-gt16.false, le-ltb _ _ c.if-spare-gt0.false, c.if-t.false, sym c.outside-2.ensures ∙ c.if-outside-2.true)
 
 pub returns : goal.returns
 unfolding judged xor
 returns c =
-    let q = c in
-    let d = q in
-    let b = d in
-    simp (sym b.outside.ensures ∙ b.if-outside.false, le-ltb _ _ d.if-t-gt16.false, le-ltb _ _ d.if-spare-gt0.false, q.if-t.false, sym c.outside-2.ensures ∙ c.if-outside-2.false)
+    simp (sym c.outside.ensures ∙ c.if-outside.false, le-ltb _ _ c.if-t-gt16.false, le-ltb _ _ c.if-spare-gt0.false, c.if-t.false, sym c.outside-2.ensures ∙ c.if-outside-2.false)

@@ -1,5 +1,4 @@
 -- `table::number_of` meets its contract.
-use borrow.Author.Rules.{rules}
 use Rattle.table.specs.Row.{number_of}
 use Rattle.table.proofs.number_of.Goals as goal
 

@@ -1,5 +1,4 @@
 -- `table::read_row` meets its contract. Of each word the fields are the first bits and the last ones, and so those of the definition.
-use borrow.Author.Rules.{rules}
 use Rattle.bits.proofs.Laws.{bits_first, bits_last}
 use Rattle.table.specs.Row.{row_of}
 use Rattle.table.proofs.read_row.Goals as goal

@@ -1,16 +1,14 @@
 -- `table::read_rows` meets its contract. The loop's invariant: the first i rows are good, and the columns hold them.
-use Prim.Native.Nat.{ℕ, ◌+◌, ◌-◌, ◌≤◌, ◌<◌}
-use mathlib.Core.List.{[], ◌∷◌, List}
+use Prim.Native.Nat.{ℕ, ◌+◌, ◌<◌}
 use mathlib.Core.Path.{◌≡◌, refl, sym, ◌∙◌, ap}
 use native.Mathlib.Omega.{arith}
 use borrow.Author.Count.{below_more}
-use borrow.Author.Rules.{rules}
 use Rattle.table.specs.Row.{number_of}
-use Rattle.table.specs.Table.{table_of, row_bytes, refusal, row_number, column}
+use Rattle.table.specs.Table.{table_of, row_bytes, refusal, row_number}
 use Rattle.table.specs.declared.Task.{Task}
 use Rattle.table.specs.declared.RowRead.{RowRead}
 use Rattle.table.specs.declared.RowRead.TheVariants.{Good, BadPeriod, BadResource, Disagree, BadSum}
-use Rattle.table.proofs.Laws.{good_task, good_number, Read, rows_refused, rows_accepted, column_none, column_more}
+use Rattle.table.proofs.Laws.{good_task, good_number, rows_refused, rows_accepted, column_none, column_more}
 use Rattle.table.proofs.read_rows.Invariants.{Columns}
 use Rattle.table.proofs.read_rows.Goals as goal
 
@@ -40,22 +38,18 @@ loop-i-init c =
 pub returns-in_default : goal.returns-in_default
 unfolding row_number
 returns-in_default c =
-    let r = c in
-    let l = r.loop-i in
-    let s = r in
-    let bs = s.args.bytes.now in
-    let n : c.number_of.result ≡ row_number bs l.i = c.number_of.ensures ∙ ap number_of r.row_at-row.ensures in
-    let b : 0 < row_number bs l.i = omega (arith, told r.row_at-row.result c.in_default.not-Good, c.number_of.ensures) in
-    c.refuse.ensures ∙ ap (λ (x : ℕ). refusal x (l.i + 1)) n ∙ sym (rows_refused bs s.args.n s.args.m s.args.npp l.i (omega arith) l.invariant.0 b)
+    let l = c.loop-i in
+    let bs = c.args.bytes.now in
+    let n : c.number_of.result ≡ row_number bs l.i = c.number_of.ensures ∙ ap number_of c.row_at-row.ensures in
+    let b : 0 < row_number bs l.i = omega (arith, told c.row_at-row.result c.in_default.not-Good, c.number_of.ensures) in
+    c.refuse.ensures ∙ ap (λ (x : ℕ). refusal x (l.i + 1)) n ∙ sym (rows_refused bs c.args.n c.args.m c.args.npp l.i (omega arith) l.invariant.0 b)
 
 pub loop-i-preserved : goal.loop-i-preserved
 unfolding row_number
 loop-i-preserved c =
-    let r = c in
-    let l = r.loop-i in
-    let s = r in
-    let bs = s.args.bytes.now in
-    let e = sym r.row_at-row.ensures ∙ c.in-Good.is in
+    let l = c.loop-i in
+    let bs = c.args.bytes.now in
+    let e = sym c.row_at-row.ensures ∙ c.in-Good.is in
     let h = good_task (row_bytes bs l.i) c.in-Good.t e in (
       below_more _ _ l.invariant.0 (good_number (row_bytes bs l.i) c.in-Good.t e),
       record {
@@ -72,9 +66,8 @@ pub returns : goal.returns
 unfolding table_of
 returns c =
     let l = c.loop-i in
-    let s = c in
-    let bs = s.args.bytes.now in
-    let n = s.args.n in
+    let bs = c.args.bytes.now in
+    let n = c.args.n in
     let q : l.i ≡ n = omega arith in
     let cs : Columns bs n l.period l.c1 l.a l.c2 l.resource = rw q at l.invariant.1 in
-    rw (rows_accepted bs n s.args.m s.args.npp (λ k h. l.invariant.0 k (omega arith))) (c.finish.ensures ∙ rw (cs.of_period, cs.of_c1, cs.of_a, cs.of_c2, cs.of_resource))
+    rw (rows_accepted bs n c.args.m c.args.npp (λ k h. l.invariant.0 k (omega arith))) (c.finish.ensures ∙ rw (cs.of_period, cs.of_c1, cs.of_a, cs.of_c2, cs.of_resource))

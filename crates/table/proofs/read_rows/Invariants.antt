@@ -1,19 +1,9 @@
 -- `table::read_rows` meets its contract. The loop's invariant: the first i rows are good, and the columns hold them.
-use Prim.Native.Nat.{ℕ, ◌+◌, ◌-◌, ◌≤◌, ◌<◌}
-use mathlib.Core.List.{[], ◌∷◌, List}
-use mathlib.Core.Logic.{⊎_elim}
-use mathlib.Core.Path.{◌≡◌, sym, ◌∙◌, ap}
-use native.Mathlib.Omega.{arith}
-use borrow.Author.Count.{below_more}
-use borrow.Author.Rules.{rules}
-use types.Run.{OneOf}
-use denote.Enum.Declared.{tag_of}
-use Rattle.table.specs.contracts.RowRead.{the_type}
-use Rattle.table.specs.Row.{number_of}
-use Rattle.table.specs.Table.{table_of, row_bytes, refusal, row_number, column}
-use Rattle.table.specs.declared.RowRead.{RowRead}
-use Rattle.table.specs.declared.RowRead.TheVariants.{Good, BadPeriod, BadResource, Disagree, BadSum}
-use Rattle.table.proofs.Laws.{good_task, good_number, Read, rows_refused, rows_accepted, column_none, column_more}
+use Prim.Native.Nat.{ℕ, ◌-◌, ◌≤◌}
+use mathlib.Core.List.{List}
+use mathlib.Core.Path.{◌≡◌}
+use Rattle.table.specs.Table.{column}
+use Rattle.table.proofs.Laws.{Read}
 use Rattle.table.proofs.read_rows.Given as goal
 
 -- the columns hold the first i rows

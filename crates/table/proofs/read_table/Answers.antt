@@ -17,31 +17,26 @@ returns-then-number-gt0 c =
 
 pub field-n-requires : goal.field-n-requires
 field-n-requires c =
-    let b = c in
-    let g = header_good b.args.bytes.now (omega arith) in
+    let g = header_good c.args.bytes.now (omega arith) in
     search rules
 
 pub field-m-requires : goal.field-m-requires
 field-m-requires c =
-    let b = c in
-    let g = header_good b.args.bytes.now (omega arith) in
+    let g = header_good c.args.bytes.now (omega arith) in
     search rules
 
 pub field-npp-requires : goal.field-npp-requires
 field-npp-requires c =
-    let b = c in
-    let g = header_good b.args.bytes.now (omega arith) in
+    let g = header_good c.args.bytes.now (omega arith) in
     search rules
 
 pub read_rows-requires : goal.read_rows-requires
 read_rows-requires c =
-    let b = c in
-    let g = header_good b.args.bytes.now (omega arith) in
+    let g = header_good c.args.bytes.now (omega arith) in
     search rules
 
 pub returns : goal.returns
 unfolding reading_of
 returns c =
-    let b = c in
-    let bs = b.args.bytes.now in
+    let bs = c.args.bytes.now in
     rw (le-ltb 0 (header_number bs) (omega arith)) cc

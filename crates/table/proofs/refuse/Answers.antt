@@ -1,5 +1,4 @@
 -- `table::refuse` meets its contract.
-use borrow.Author.Rules.{rules}
 use Rattle.table.proofs.refuse.Goals as goal
 
 pub returns : goal.returns

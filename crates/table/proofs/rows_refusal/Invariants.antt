@@ -1,12 +1,6 @@
 -- `table::rows_refusal` meets its contract. The loop's invariant: the first i rows are good.
 use Prim.Native.Nat.{◌-◌, ◌≤◌}
-use mathlib.Core.Path.{◌≡◌, sym, ◌∙◌, ap}
-use native.Mathlib.Omega.{arith}
-use borrow.Author.Count.{below_more}
-use borrow.Author.Rules.{rules}
-use Rattle.table.specs.Row.{number_of}
-use Rattle.table.specs.Table.{row_number, refusal_of}
-use Rattle.table.proofs.Laws.{Read, rows_refused, rows_accepted}
+use Rattle.table.proofs.Laws.{Read}
 use Rattle.table.proofs.rows_refusal.Given as goal
 
 abbrev pub invariant-loop-i : goal.invariant-loop-i
