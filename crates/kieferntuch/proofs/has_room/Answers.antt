@@ -2,7 +2,6 @@
 use Prim.Native.Nat.{◌+◌, ◌*◌}
 use native.Mathlib.Omega.{arith}
 use borrow.Author.Tests.{lt-ltb}
-use borrow.Author.Rules.{rules}
 use Rattle.kieferntuch.proofs.Planned.{room_test}
 use Rattle.kieferntuch.proofs.has_room.Goals as goal
 

@@ -1,6 +1,5 @@
 -- `kieferntuch::kieferntuch_read` meets its contract.
 use mathlib.Core.Path.{◌∙◌, ap}
-use borrow.Author.Rules.{rules}
 use Rattle.table.specs.declared.Refusal.{Refusal}
 use Rattle.kieferntuch.specs.Answer.{answer}
 use Rattle.kieferntuch.proofs.kieferntuch_read.Goals as goal

@@ -1,6 +1,4 @@
 -- `kieferntuch::kieferntuch_run` meets its contract: a run does with the numbers of a list that was taken apart what it does with the list.
-use mathlib.Core.Path.{◌≡◌}
-use lib.ListN.{length}
 use Rattle.lists.proofs.Tab.{length-blank}
 use Rattle.table.specs.Table.{reading_of}
 use Rattle.run.proofs.Many.{from_flat}

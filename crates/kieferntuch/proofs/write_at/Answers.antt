@@ -1,6 +1,5 @@
 -- `kieferntuch::write_at` meets its contract. What is written at the start of the part stands from `at` on in the sheet.
 use native.Mathlib.Omega.{arith}
-use borrow.Author.Rules.{rules}
 use Rattle.sheet.specs.Sheet.{plan_bytes}
 use Rattle.sheet.proofs.ReadBack.{plan_size}
 use Rattle.kieferntuch.proofs.Planned.{written}

@@ -1,7 +1,6 @@
 -- `listing::put_line` meets its contract. Word, numbers and line end are written one behind the other.
 use mathlib.Core.List.{[], ◌∷◌, ◌++◌, append_assoc}
 use native.Mathlib.Omega.{arith}
-use borrow.Author.Rules.{rules}
 use Rattle.listing.specs.Text.{spaced, line}
 use Rattle.listing.proofs.Text.{then}
 use Rattle.listing.proofs.put_line.Goals as goal

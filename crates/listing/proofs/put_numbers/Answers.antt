@@ -1,12 +1,10 @@
 -- `listing::put_numbers` meets its contract. The loop's invariant: the first i numbers are written, in at most 11 bytes each.
-use Prim.Native.Nat.{◌+◌, ◌-◌, ◌*◌, ◌≤◌}
 use mathlib.Core.List.{[], ◌∷◌, ◌++◌}
 use mathlib.Core.Path.{◌≡◌}
 use native.Mathlib.Omega.{arith}
-use borrow.Author.Rules.{rules}
 use lib.ListN.{length, take, get_or}
 use lib.Seq.{take-length}
-use Rattle.listing.specs.Text.{decimal, spaced, Wrote}
+use Rattle.listing.specs.Text.{decimal, spaced}
 use Rattle.listing.proofs.Text.{spaced-take, then, wrote_nothing, wrote_length}
 use Rattle.listing.proofs.put_numbers.Goals as goal
 
@@ -24,21 +22,18 @@ put_byte-end-requires c =
 
 pub put_number-end-requires : goal.put_number-end-requires
 put_number-end-requires c =
-    let b = c in
-    let l = b.loop-i in
-    let a = b.args in
-    omega (arith, wrote_length (spaced (take l.i a.numbers.now)) l.invariant.1, wrote_length (32 ∷ []) b.put_byte-end.ensures, b.put_byte-end.ensures.ends)
+    let l = c.loop-i in
+    let a = c.args in
+    omega (arith, wrote_length (spaced (take l.i a.numbers.now)) l.invariant.1, wrote_length (32 ∷ []) c.put_byte-end.ensures, c.put_byte-end.ensures.ends)
 
 pub loop-i-preserved : goal.loop-i-preserved
 loop-i-preserved c =
-    let p = c in
-    let b = p in
-    let l = b.loop-i in
-    let a = b.args in
+    let l = c.loop-i in
+    let a = c.args in
     let xs = a.numbers.now in
     let u = spaced (take l.i xs) in
-    let w = then (u ++ (32 ∷ [])) (decimal (get_or xs l.i 0)) (then u (32 ∷ []) l.invariant.1 b.put_byte-end.ensures) p.put_number-end.ensures.0 in
-    (omega arith, rw (spaced-take xs l.i (omega arith)) w, omega (arith, b.put_byte-end.ensures.ends))
+    let w = then (u ++ (32 ∷ [])) (decimal (get_or xs l.i 0)) (then u (32 ∷ []) l.invariant.1 c.put_byte-end.ensures) c.put_number-end.ensures.0 in
+    (omega arith, rw (spaced-take xs l.i (omega arith)) w, omega (arith, c.put_byte-end.ensures.ends))
 
 pub shape_of-out : goal.shape_of-out
 shape_of-out c =

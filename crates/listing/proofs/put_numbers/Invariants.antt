@@ -1,13 +1,7 @@
 -- `listing::put_numbers` meets its contract. The loop's invariant: the first i numbers are written, in at most 11 bytes each.
 use Prim.Native.Nat.{◌+◌, ◌-◌, ◌*◌, ◌≤◌}
-use mathlib.Core.List.{[], ◌∷◌, ◌++◌}
-use mathlib.Core.Path.{◌≡◌}
-use native.Mathlib.Omega.{arith}
-use borrow.Author.Rules.{rules}
-use lib.ListN.{length, take, get_or}
-use lib.Seq.{take-length}
-use Rattle.listing.specs.Text.{decimal, spaced, Wrote}
-use Rattle.listing.proofs.Text.{spaced-take, then, wrote_nothing, wrote_length}
+use lib.ListN.{length, take}
+use Rattle.listing.specs.Text.{spaced, Wrote}
 use Rattle.listing.proofs.put_numbers.Given as goal
 
 abbrev pub invariant-loop-i : goal.invariant-loop-i

@@ -1,7 +1,6 @@
 -- `listing::put_plan` meets its contract. Its three parts are written one behind the other.
 use mathlib.Core.List.{◌++◌}
 use native.Mathlib.Omega.{arith}
-use borrow.Author.Rules.{rules}
 use Rattle.lists.specs.Tab.{joined}
 use Rattle.listing.specs.Listing.{plan_line, resource_lines, task_line, plan_text}
 use Rattle.listing.proofs.Text.{then}

@@ -1,5 +1,4 @@
 -- `listing::put_plan_line` meets its contract.
-use borrow.Author.Rules.{rules}
 use Rattle.listing.specs.Listing.{plan_line}
 use Rattle.listing.proofs.put_plan_line.Goals as goal
 

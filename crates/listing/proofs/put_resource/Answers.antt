@@ -1,6 +1,5 @@
 -- `listing::put_resource` meets its contract.
 use native.Mathlib.Omega.{arith}
-use borrow.Author.Rules.{rules}
 use borrow.Author.Tests.{lt-ltb, le-ltb}
 use lib.ListN.{get_or}
 use Rattle.listing.specs.Listing.{resource_line}

@@ -1,12 +1,10 @@
 -- `listing::put_resources` meets its contract. The loop's invariant: the lines of resources 1 to i are written, in at most 31 bytes each.
-use Prim.Native.Nat.{ℕ, ◌+◌, ◌-◌, ◌*◌, ◌≤◌}
+use Prim.Native.Nat.{ℕ, ◌+◌}
 use mathlib.Core.Path.{◌≡◌}
 use mathlib.Core.List.{List}
 use native.Mathlib.Omega.{arith}
-use borrow.Author.Rules.{rules}
 use Rattle.lists.specs.Tab.{joined}
 use Rattle.lists.proofs.Joined.{joined_more}
-use Rattle.listing.specs.Text.{Wrote}
 use Rattle.listing.specs.Listing.{resource_line, resource_lines}
 use Rattle.listing.proofs.Text.{then, wrote_nothing, wrote_length}
 use Rattle.listing.proofs.put_resources.Goals as goal
@@ -26,11 +24,10 @@ put_resource-end-requires c =
 pub loop-i-preserved : goal.loop-i-preserved
 unfolding resource_lines
 loop-i-preserved c =
-    let p = c in
-    let l = p.loop-i in
-    let a = p.args in
+    let l = c.loop-i in
+    let a = c.args in
     let f : ℕ → List ℕ = λ i. resource_line a.serves.now (i + 1) in
-    (omega arith, rw (joined_more l.i f) (then (joined l.i f) (f l.i) l.invariant.1 p.put_resource-end.ensures.0), omega (arith, p.put_resource-end.ensures.1))
+    (omega arith, rw (joined_more l.i f) (then (joined l.i f) (f l.i) l.invariant.1 c.put_resource-end.ensures.0), omega (arith, c.put_resource-end.ensures.1))
 
 pub shape_of-out : goal.shape_of-out
 shape_of-out c =

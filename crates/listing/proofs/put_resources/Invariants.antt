@@ -1,14 +1,7 @@
 -- `listing::put_resources` meets its contract. The loop's invariant: the lines of resources 1 to i are written, in at most 31 bytes each.
-use Prim.Native.Nat.{ℕ, ◌+◌, ◌-◌, ◌*◌, ◌≤◌}
-use mathlib.Core.Path.{◌≡◌}
-use mathlib.Core.List.{List}
-use native.Mathlib.Omega.{arith}
-use borrow.Author.Rules.{rules}
-use Rattle.lists.specs.Tab.{joined}
-use Rattle.lists.proofs.Joined.{joined_more}
+use Prim.Native.Nat.{◌+◌, ◌-◌, ◌*◌, ◌≤◌}
 use Rattle.listing.specs.Text.{Wrote}
-use Rattle.listing.specs.Listing.{resource_line, resource_lines}
-use Rattle.listing.proofs.Text.{then, wrote_nothing, wrote_length}
+use Rattle.listing.specs.Listing.{resource_lines}
 use Rattle.listing.proofs.put_resources.Given as goal
 
 abbrev pub invariant-loop-i : goal.invariant-loop-i

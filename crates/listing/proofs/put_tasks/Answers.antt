@@ -1,11 +1,8 @@
 -- `listing::put_tasks` meets its contract. The loop's invariant: the lines of the first k rows are written, in at most 60 bytes each.
-use Prim.Native.Nat.{◌+◌, ◌-◌, ◌*◌, ◌≤◌}
 use mathlib.Core.Path.{◌≡◌}
 use native.Mathlib.Omega.{arith}
-use borrow.Author.Rules.{rules}
 use Rattle.lists.specs.Tab.{joined}
 use Rattle.lists.proofs.Joined.{joined_more}
-use Rattle.listing.specs.Text.{Wrote}
 use Rattle.listing.specs.Listing.{task_line}
 use Rattle.listing.proofs.Text.{then, wrote_nothing, wrote_length}
 use Rattle.listing.proofs.put_tasks.Goals as goal
@@ -26,11 +23,10 @@ put_line-end-requires c =
 pub loop-k-preserved : goal.loop-k-preserved
 unfolding task_line
 loop-k-preserved c =
-    let p = c in
-    let l = p.loop-k in
-    let a = p.args in
+    let l = c.loop-k in
+    let a = c.args in
     let f = task_line a.processor.now a.d1.now a.section.now a.d2.now in
-    (omega arith, rw (joined_more l.k f) (then (joined l.k f) (f l.k) l.invariant.1 p.put_line-end.ensures.0), omega (arith, p.put_line-end.ensures.1))
+    (omega arith, rw (joined_more l.k f) (then (joined l.k f) (f l.k) l.invariant.1 c.put_line-end.ensures.0), omega (arith, c.put_line-end.ensures.1))
 
 pub shape_of-out : goal.shape_of-out
 shape_of-out c =

@@ -1,13 +1,8 @@
 -- `listing::put_tasks` meets its contract. The loop's invariant: the lines of the first k rows are written, in at most 60 bytes each.
 use Prim.Native.Nat.{◌+◌, ◌-◌, ◌*◌, ◌≤◌}
-use mathlib.Core.Path.{◌≡◌}
-use native.Mathlib.Omega.{arith}
-use borrow.Author.Rules.{rules}
 use Rattle.lists.specs.Tab.{joined}
-use Rattle.lists.proofs.Joined.{joined_more}
 use Rattle.listing.specs.Text.{Wrote}
 use Rattle.listing.specs.Listing.{task_line}
-use Rattle.listing.proofs.Text.{then, wrote_nothing, wrote_length}
 use Rattle.listing.proofs.put_tasks.Given as goal
 
 abbrev pub invariant-loop-k : goal.invariant-loop-k

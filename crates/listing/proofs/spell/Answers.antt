@@ -1,12 +1,11 @@
 -- `listing::spell` meets its contract. The loop's invariant: the digits of `rest` in front of those that are stored are the digits of x, and `rest` has at most as many digits as there is room.
-use Prim.Native.Nat.{suc, ◌-◌, ◌^◌, ◌≤◌, ◌<◌}
+use Prim.Native.Nat.{◌-◌, ◌≤◌}
 use mathlib.Core.List.{[]}
 use mathlib.Core.Path.{◌≡◌, sym, ◌∙◌}
 use native.Mathlib.Omega.{arith}
-use borrow.Author.Rules.{rules}
 use lib.ListN.{length, drop, length-set, drop_of_length-le}
 use Rattle.listing.proofs.Text.{in_front, spelled_more, spelled_last, shorter}
-use Rattle.listing.specs.Text.{spelled, decimal}
+use Rattle.listing.specs.Text.{decimal}
 use Rattle.listing.proofs.spell.Goals as goal
 
 pub loop-rest-init : goal.loop-rest-init

@@ -1,11 +1,7 @@
 -- `listing::spell` meets its contract. The loop's invariant: the digits of `rest` in front of those that are stored are the digits of x, and `rest` has at most as many digits as there is room.
-use Prim.Native.Nat.{suc, ◌-◌, ◌^◌, ◌≤◌, ◌<◌}
-use mathlib.Core.List.{[]}
-use mathlib.Core.Path.{◌≡◌, sym, ◌∙◌}
-use native.Mathlib.Omega.{arith}
-use borrow.Author.Rules.{rules}
-use lib.ListN.{length, drop, length-set, drop_of_length-le}
-use Rattle.listing.proofs.Text.{in_front, spelled_more, spelled_last, shorter}
+use Prim.Native.Nat.{suc, ◌^◌, ◌≤◌, ◌<◌}
+use mathlib.Core.Path.{◌≡◌}
+use lib.ListN.{length, drop}
 use Rattle.listing.specs.Text.{spelled, decimal}
 use Rattle.listing.proofs.spell.Given as goal
 
