@@ -42,7 +42,7 @@ use Rattle.kieferntuch.proofs.Exactly.{Ready, written_exactly, planned}
 use Rattle.kieferntuch.proofs.ReadBack.{sheet_read_back}
 use Rattle.kieferntuch.specs.contracts.kieferntuch_plan as kieferntuch_plan_contract
 use Rattle.kieferntuch.proofs.kieferntuch_plan as kieferntuch_plan_proof
-use Rattle.kieferntuch.specs.contracts.kieferntuch_run as run
+use Rattle.kieferntuch.specs.contracts.kieferntuch_run as kieferntuch_run_contract
 use Rattle.settled.specs.Settled.{Program, Meets}
 use Rattle.settled.proofs.Records.{run_asks, run_says}
 
@@ -54,10 +54,10 @@ abbrev pub Plans : Planner → Type 0
 Plans = Meets kieferntuch_plan_contract.ended kieferntuch_plan_proof.Reads.Pre kieferntuch_plan_proof.Reads.Post
 
 abbrev pub Runner : Type 0
-Runner = Program run.ended
+Runner = Program kieferntuch_run_contract.ended
 
 abbrev pub Runs : Runner → Type 0
-Runs = Meets run.ended run_asks run_says
+Runs = Meets kieferntuch_run_contract.ended run_asks run_says
 
 -- n and m of a table's bytes
 abbrev pub rows_of : List ℕ → ℕ
@@ -146,7 +146,7 @@ plan_call t = (lent (table t), (0, (lent_mut sheet_21, tt)))
 abbrev arrivals : List Arrival
 arrivals = record { tick = 0; row = 1; len1 = 2; len2 = 0; len3 = 0 } ∷ []
 
-abbrev run_call : ℕ → Args (run.ended).signature ([], ([], ([], tt)))
+abbrev run_call : ℕ → Args (kieferntuch_run_contract.ended).signature ([], ([], ([], tt)))
 run_call ticks = (lent (table 2), (lent arrivals, (0, (ticks, (lent_mut trace_6, tt)))))
 
 abbrev three_ticks : Ran

@@ -66,7 +66,7 @@ use Rattle.spread.specs.contracts.heaviest as heaviest_contract
 use Rattle.spread.proofs.heaviest as heaviest_proof
 use Rattle.plan.specs.contracts.of_resource as of_resource_contract
 use Rattle.plan.proofs.of_resource as of_resource_proof
-use Rattle.arrivals.specs.contracts.taken_apart as taken-apart
+use Rattle.arrivals.specs.contracts.taken_apart as taken_apart_contract
 use Rattle.arrivals.specs.contracts.comes as comes_contract
 use Rattle.arrivals.proofs.comes as comes_proof
 use Rattle.arrivals.specs.contracts.lens_at as lens_at_contract
@@ -99,7 +99,7 @@ use Rattle.machine.specs.contracts.show as show_contract
 use Rattle.machine.proofs.show as show_proof
 use Rattle.kieferntuch.specs.contracts.kieferntuch_plan as kieferntuch_plan_contract
 use Rattle.kieferntuch.proofs.kieferntuch_plan as kieferntuch_plan_proof
-use Rattle.kieferntuch.specs.contracts.kieferntuch_run as run
+use Rattle.kieferntuch.specs.contracts.kieferntuch_run as kieferntuch_run_contract
 use Rattle.settled.specs.Settled.{Requires, Ensures, Given, Allows}
 use Rattle.settled.proofs.Records.{apart_asks, apart_says, run_asks, run_says}
 
@@ -255,7 +255,7 @@ resource_before κs = ((omega arith, λ k h. omega (arith, below resource k)), a
 -- ---- arrivals
 
 -- `taken_apart`: the row before the tick
-row_before_tick : (κs : _) → RuledOut taken-apart.ended apart_asks apart_says κs
+row_before_tick : (κs : _) → RuledOut taken_apart_contract.ended apart_asks apart_says κs
     (lent 1 (record { tick = 5; row = 1; len1 = 2; len2 = 3; len3 = 4 } ∷ []), (lent_mut 2 (array 20480 []), tt))
     (tt, (_, (array 20480 (1 ∷ 5 ∷ 2 ∷ 3 ∷ 4 ∷ []), _)))
 unfolding blank joined flat_of
@@ -438,13 +438,13 @@ bytes_from_processor_0 κs = ((refl, omega arith, (λ q. omega (arith, below (ar
 -- ---- kieferntuch
 
 -- `kieferntuch_run`: a call that is refused for its table, here without bytes, leaves zeros in the trace
-wiped_on_refusal : (κs : _) (arrivals : List Arrival) → RuledOut run.ended run_asks run_says κs
+wiped_on_refusal : (κs : _) (arrivals : List Arrival) → RuledOut kieferntuch_run_contract.ended run_asks run_says κs
     (lent 1 [], (lent 2 arrivals, (0, (1, (lent_mut 3 (blank 2 0xAA), tt))))) (refused 1 0 0 0, (_, (_, (_, (_, (blank 2 0, _))))))
 unfolding blank header_number reading_of trace_after
 wiped_on_refusal κs arrivals = (tt, λ p. at 0 refl p.1)
 
 -- `kieferntuch_run`: refusal 11 of Q on two processors has the mark, 2, in the place of the value, which is 12
-mark_for_the_value : (κs : _) (arrivals : List Arrival) → RuledOut run.ended run_asks run_says κs
+mark_for_the_value : (κs : _) (arrivals : List Arrival) → RuledOut kieferntuch_run_contract.ended run_asks run_says κs
     (lent 1 (written (Q 2 4)), (lent 2 arrivals, (0, (1, (lent_mut 3 (blank 2 0xAA), tt))))) (refused 11 2 2 2, (_, (_, (_, (_, (blank 2 0xAA, _))))))
 unfolding planning table_answer run_answer
 mark_for_the_value κs arrivals = (tt, λ p. seen (λ r. r.value) refl p.0)
