@@ -24,12 +24,6 @@ trial-tried-requires c =
     let t = c.args.t in
     (c.requires, omega (arith, last-lt t c.requires.processors.0), λ l. omega (arith, first_one t l))
 
-pub enum_known-outcome : goal.enum_known-outcome
-enum_known-outcome c = c.in_default.keys1
-
-pub enum_told-1 : goal.enum_told-1
-enum_told-1 c = c.in_default.keys2
-
 pub returns-in_default : goal.returns-in_default
 returns-in_default c =
     let t = c.args.t in
