@@ -1,5 +1,4 @@
 -- `jobs::job_at` meets its contract.
-use borrow.Author.Rules.{rules}
 use Rattle.jobs.specs.Numbers.{job_in}
 use Rattle.jobs.proofs.job_at.Goals as goal
 

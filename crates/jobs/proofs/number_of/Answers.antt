@@ -1,5 +1,4 @@
 -- `jobs::number_of` meets its contract.
-use borrow.Author.Rules.{rules}
 use Rattle.jobs.specs.Numbers.{number_of}
 use Rattle.jobs.proofs.number_of.Goals as goal
 

@@ -1,5 +1,4 @@
 -- `jobs::place_in` meets its contract.
-use borrow.Author.Rules.{rules}
 use borrow.Author.Tests.{lt-ltb, le-ltb, eq-eqb, ne_eqb}
 use Rattle.jobs.specs.Numbers.{place_in}
 use Rattle.jobs.proofs.place_in.Goals as goal

@@ -3,7 +3,6 @@ use Prim.Native.Nat.{◌*◌}
 use native.Mathlib.Omega.{arith}
 use native.Mathlib.Nat.{add-suc}
 use native.Mathlib.Numerals.{add-one}
-use borrow.Author.Rules.{rules}
 use lib.ListN.{length-set}
 use Rattle.jobs.specs.Numbers.{numbers_of}
 use Rattle.jobs.proofs.put_job.Goals as goal

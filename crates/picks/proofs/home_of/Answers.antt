@@ -2,7 +2,6 @@
 use Prim.Native.Nat.{◌+◌, ◌*◌}
 use mathlib.Core.Path.{refl}
 use native.Mathlib.Omega.{arith}
-use borrow.Author.Rules.{rules}
 use Rattle.picks.proofs.home_of.Goals as goal
 
 pub overflow_cast-result-2 : goal.overflow_cast-result-2

@@ -1,6 +1,5 @@
 -- `picks::larger_key` meets its contract.
 use native.Mathlib.Numerals.{add-one}
-use borrow.Author.Rules.{rules}
 use borrow.Author.Tests.{lt-ltb, le-ltb}
 use Rattle.picks.proofs.larger_key.Goals as goal
 

@@ -1,13 +1,7 @@
 -- `picks::look_over` meets its contract. The loop's invariant: the columns have what each processor has to choose from among the first i rows.
-use Prim.Native.Nat.{◌-◌, ◌≤◌, ◌<◌}
-use mathlib.Core.Path.{◌≡◌, sym, ◌∙◌, ap}
-use mathlib.Core.Logic.{⊎_elim}
-use native.Mathlib.Omega.{arith}
-use borrow.Author.Rules.{rules}
-use Rattle.chain.specs.Good.{part_of, GoodJob}
+use Prim.Native.Nat.{◌-◌, ◌≤◌}
 use Rattle.jobs.specs.Numbers.{jobs_in}
-use Rattle.jobs.proofs.Laws.{jobs_at_lem}
-use Rattle.picks.proofs.Columns.{Columns, columns_none, columns_same, columns_all, columns_idle, columns_stage, columns_first, columns_held}
+use Rattle.picks.proofs.Columns.{Columns}
 use Rattle.picks.proofs.look_over.Given as goal
 
 abbrev pub invariant-loop-i : goal.invariant-loop-i

@@ -1,17 +1,12 @@
 -- `picks::picks` meets its contract. The loop's invariant: each processor passed has its choice.
 use Prim.Native.Nat.{ℕ, ◌-◌, ◌≤◌}
-use mathlib.Core.Path.{◌≡◌, sym, ◌∙◌}
+use mathlib.Core.Path.{◌≡◌}
 use mathlib.Core.List.{List}
-use native.Mathlib.Omega.{arith}
-use borrow.Author.Rules.{rules}
 use lib.ListN.{get_or}
 use lib.Dec.{ltb}
 use Rattle.lists.specs.Tab.{filled}
-use Rattle.lists.proofs.Tab.{filled_none, filled_next, filled_all, tab_same}
-use Rattle.jobs.specs.Numbers.{jobs_in}
 use Rattle.picks.specs.Pick.{chosen}
 use Rattle.picks.specs.Offer.{Best, nobody}
-use Rattle.picks.proofs.Picked.{pick_is}
 use Rattle.picks.proofs.picks.Given as goal
 
 abbrev pub choice : List Best → List Best → List Best → List ℕ → ℕ → ℕ

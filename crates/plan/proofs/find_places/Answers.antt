@@ -1,5 +1,4 @@
 -- `plan::find_places` meets its contract.
-use borrow.Author.Rules.{rules}
 use Rattle.plan.proofs.Trials.{stages_good}
 use Rattle.plan.proofs.find_places.Goals as goal
 

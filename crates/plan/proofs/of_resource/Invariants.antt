@@ -1,11 +1,7 @@
 -- `plan::of_resource` meets its contract. The loop's invariant: the first k places are filled.
 use Prim.Native.Nat.{◌-◌, ◌≤◌}
-use mathlib.Core.Path.{◌≡◌, sym, ◌∙◌}
-use native.Mathlib.Omega.{arith}
-use borrow.Author.Rules.{rules}
-use lib.ListN.{get_or}
+use mathlib.Core.Path.{◌≡◌}
 use Rattle.plan.specs.Tasks.{of_resource}
-use Rattle.lists.proofs.Tab.{filled_none, filled_next}
 use Rattle.plan.proofs.of_resource.Given as goal
 
 abbrev pub invariant-loop-k : goal.invariant-loop-k

@@ -1,5 +1,4 @@
 -- `plan::plan_table` meets its contract.
-use borrow.Author.Rules.{rules}
 use Rattle.plan.specs.Planning.{planned_of}
 use Rattle.plan.proofs.Ordered.{tasks_good}
 use Rattle.plan.proofs.plan_table.Goals as goal

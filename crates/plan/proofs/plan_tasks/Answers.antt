@@ -1,12 +1,10 @@
 -- `plan::plan_tasks` meets its contract. The loop's invariant: no trial before s succeeds, and row, mark and value are those of the one before s.
-use Prim.Native.Nat.{◌+◌, ◌-◌, ◌≤◌, ◌<◌}
+use Prim.Native.Nat.{◌+◌, ◌-◌}
 use mathlib.Core.Path.{◌≡◌, sym, ◌∙◌, ap}
 use native.Mathlib.Omega.{arith}
-use borrow.Author.Rules.{rules}
-use Rattle.plan.specs.Trial.{failed, trial_of}
-use Rattle.plan.specs.Planning.{is_planned, first_trial, last_trial}
+use Rattle.plan.specs.Planning.{is_planned, last_trial}
 use Rattle.plan.specs.declared.Tried.{Tried}
-use Rattle.plan.proofs.Trials.{trial_failed, first_one, trials_some, last-lt, NoneBefore, planning_found, planning_none, none_more}
+use Rattle.plan.proofs.Trials.{trial_failed, first_one, trials_some, last-lt, planning_found, planning_none, none_more}
 use Rattle.plan.proofs.plan_tasks.Goals as goal
 
 pub overflow_sub-t : goal.overflow_sub-t

@@ -1,12 +1,9 @@
 -- `plan::plan_tasks` meets its contract. The loop's invariant: no trial before s succeeds, and row, mark and value are those of the one before s.
 use Prim.Native.Nat.{◌+◌, ◌-◌, ◌≤◌, ◌<◌}
-use mathlib.Core.Path.{◌≡◌, sym, ◌∙◌, ap}
-use native.Mathlib.Omega.{arith}
-use borrow.Author.Rules.{rules}
+use mathlib.Core.Path.{◌≡◌}
 use Rattle.plan.specs.Trial.{failed, trial_of}
-use Rattle.plan.specs.Planning.{is_planned, first_trial, last_trial}
-use Rattle.plan.specs.declared.Tried.{Tried}
-use Rattle.plan.proofs.Trials.{trial_failed, first_one, trials_some, last-lt, NoneBefore, planning_found, planning_none, none_more}
+use Rattle.plan.specs.Planning.{first_trial, last_trial}
+use Rattle.plan.proofs.Trials.{NoneBefore}
 use Rattle.plan.proofs.plan_tasks.Given as goal
 
 abbrev pub invariant-loop-s : goal.invariant-loop-s

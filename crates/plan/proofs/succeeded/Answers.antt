@@ -1,5 +1,4 @@
 -- `plan::succeeded` meets its contract.
-use borrow.Author.Rules.{rules}
 use Rattle.plan.specs.Trial.{plan_by}
 use Rattle.plan.proofs.succeeded.Goals as goal
 

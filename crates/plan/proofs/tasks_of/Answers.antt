@@ -8,54 +8,44 @@ numbers_to-number-requires c = c.requires.rows.1
 
 pub in_rank-c1-requires : goal.in_rank-c1-requires
 in_rank-c1-requires c =
-    let s = c in
-    (s.requires.rows.1, (s.args.t.period, s.requires.ranks))
+    (c.requires.rows.1, (c.args.t.period, c.requires.ranks))
 
 pub in_rank-c2-requires : goal.in_rank-c2-requires
 in_rank-c2-requires c =
-    let s = c in
-    (s.requires.rows.1, (s.args.t.period, s.requires.ranks))
+    (c.requires.rows.1, (c.args.t.period, c.requires.ranks))
 
 pub in_rank-named-requires : goal.in_rank-named-requires
 in_rank-named-requires c =
-    let s = c in
-    (s.requires.rows.1, (s.args.t.period, s.requires.ranks))
+    (c.requires.rows.1, (c.args.t.period, c.requires.ranks))
 
 pub weights-weight-requires : goal.weights-weight-requires
 weights-weight-requires c =
-    let s = c in
-    (s.requires.rows.1, good_rows s.args.t s.requires)
+    (c.requires.rows.1, good_rows c.args.t c.requires)
 
 pub in_rank-requires : goal.in_rank-requires
 in_rank-requires c =
-    let s = c in
-    (s.requires.rows.1, (s.args.t.period, s.requires.ranks))
+    (c.requires.rows.1, (c.args.t.period, c.requires.ranks))
 
 pub in_rank-requires-2 : goal.in_rank-requires-2
 in_rank-requires-2 c =
-    let s = c in
-    (s.requires.rows.1, (s.args.t.period, s.requires.ranks))
+    (c.requires.rows.1, (c.args.t.period, c.requires.ranks))
 
 pub works-requires : goal.works-requires
 works-requires c =
-    let s = c in
-    rw (c.in_rank-c1.ensures, c.in_rank-c2.ensures) (s.requires.rows.1, small_works s.args.t s.requires)
+    rw (c.in_rank-c1.ensures, c.in_rank-c2.ensures) (c.requires.rows.1, small_works c.args.t c.requires)
 
 pub of_resource-requires : goal.of_resource-requires
 of_resource-requires c =
-    let s = c in
-    rw c.in_rank-named.ensures (s.requires.rows.1, small_resources s.args.t s.requires)
+    rw c.in_rank-named.ensures (c.requires.rows.1, small_resources c.args.t c.requires)
 
 pub in_rank-requires-3 : goal.in_rank-requires-3
 in_rank-requires-3 c =
-    let s = c in
-    (s.requires.rows.1, (s.args.t.period, s.requires.ranks))
+    (c.requires.rows.1, (c.args.t.period, c.requires.ranks))
 
 pub heaviest-requires : goal.heaviest-requires
 heaviest-requires c =
-    let s = c in
-    let t = s.args.t in
-    rw c.weights-weight.ensures (weights-le t.period t.a t.resource t.n s.requires.rows.1 (good_rows t s.requires))
+    let t = c.args.t in
+    rw c.weights-weight.ensures (weights-le t.period t.a t.resource t.n c.requires.rows.1 (good_rows t c.requires))
 
 pub returns : goal.returns
 returns c =

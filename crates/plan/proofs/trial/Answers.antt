@@ -1,7 +1,6 @@
 -- `plan::trial` meets its contract. Each return is one case of a trial.
 use mathlib.Core.Path.{◌≡◌, sym, ◌∙◌, ap}
 use native.Mathlib.Omega.{arith}
-use borrow.Author.Rules.{rules}
 use lib.ListN.{get_or}
 use Rattle.sections.specs.declared.Sections.{Sections}
 use Rattle.stages.specs.declared.Stages.{Stages}

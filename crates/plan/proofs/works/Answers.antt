@@ -1,10 +1,8 @@
 -- `plan::works` meets its contract. The loop's invariant: the first k places are filled.
-use Prim.Native.Nat.{◌+◌, ◌-◌, ◌≤◌}
+use Prim.Native.Nat.{◌+◌}
 use mathlib.Core.Path.{◌≡◌, sym, ◌∙◌}
 use native.Mathlib.Omega.{arith}
-use borrow.Author.Rules.{rules}
 use lib.ListN.{get_or}
-use Rattle.plan.specs.Tasks.{works_of}
 use Rattle.lists.proofs.Tab.{filled_none, filled_next}
 use Rattle.plan.proofs.works.Goals as goal
 

@@ -1,9 +1,6 @@
 -- `sections::blocking` meets its contract. The loop's invariant: the largest so far is that among the first i tasks.
-use Prim.Native.Nat.{◌-◌, ◌≤◌, ◌<◌}
-use mathlib.Core.Path.{◌≡◌, sym}
+use mathlib.Core.Path.{sym}
 use native.Mathlib.Omega.{arith}
-use borrow.Author.Rules.{rules}
-use Rattle.sections.specs.Blocking.{largest_a}
 use Rattle.sections.proofs.Blocks.{largest_a_from, largest_a_more, blocking_is}
 use Rattle.sections.proofs.blocking.Goals as goal
 

@@ -2,7 +2,6 @@
 use mathlib.Core.Path.{sym}
 use native.Mathlib.Omega.{arith}
 use native.Mathlib.Nat.{max-eq_left, max-eq_right}
-use borrow.Author.Rules.{rules}
 use Rattle.sections.proofs.larger_if.Goals as goal
 
 pub returns-then-most-len : goal.returns-then-most-len

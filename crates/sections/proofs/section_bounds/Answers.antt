@@ -1,15 +1,14 @@
 -- `sections::section_bounds` meets its contract. The loop's invariant: the first k tasks have their bounds, and stand in the lanes of their homes.
-use Prim.Native.Nat.{◌-◌, ◌≤◌, ◌<◌}
+use Prim.Native.Nat.{◌<◌}
 use mathlib.Core.Path.{◌≡◌, refl, sym, ◌∙◌, ap}
 use native.Mathlib.Omega.{arith}
-use borrow.Author.Rules.{rules}
 use lib.ListN.{get_or}
 use Rattle.lists.proofs.Tab.{filled_none}
 use Rattle.sections.specs.Section.{section_bound}
 use Rattle.bounds.specs.Bound.{time_of, is_missing}
-use Rattle.bounds.proofs.Lanes.{Lanes, lanes_none, lanes_more, lanes_good}
+use Rattle.bounds.proofs.Lanes.{lanes_none, lanes_more, lanes_good}
 use Rattle.sections.proofs.Blocks.{blocking-le}
-use Rattle.sections.proofs.Found.{bounds_to, Found, bound_found, bounds_more, found_more, sections_missing, sections_all}
+use Rattle.sections.proofs.Found.{bound_found, bounds_more, found_more, sections_missing, sections_all}
 use Rattle.sections.proofs.section_bounds.Goals as goal
 
 pub loop-k-init : goal.loop-k-init

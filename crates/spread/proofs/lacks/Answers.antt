@@ -1,10 +1,8 @@
 -- `spread::lacks` meets its contract. The loop's invariant: the first r places hold what their resources lack.
-use Prim.Native.Nat.{◌+◌, ◌-◌, ◌≤◌}
+use Prim.Native.Nat.{◌+◌, ◌-◌}
 use mathlib.Core.Path.{◌≡◌, sym, ◌∙◌}
 use native.Mathlib.Omega.{arith}
 use lib.ListN.{get_or}
-use borrow.Author.Rules.{rules}
-use Rattle.lists.specs.Tab.{filled}
 use Rattle.lists.proofs.Tab.{filled_none, filled_more}
 use Rattle.spread.specs.Weight.{lacks_of}
 use Rattle.spread.proofs.lacks.Goals as goal
@@ -15,8 +13,7 @@ loop-r-init c =
 
 pub overflow_sub-out : goal.overflow_sub-out
 overflow_sub-out c =
-    let s = c in
-    omega (arith, s.requires (c.loop-r.r + 1) (omega arith))
+    omega (arith, c.requires (c.loop-r.r + 1) (omega arith))
 
 pub loop-r-preserved : goal.loop-r-preserved
 loop-r-preserved c =

@@ -1,12 +1,8 @@
 -- `spread::lacks` meets its contract. The loop's invariant: the first r places hold what their resources lack.
 use Prim.Native.Nat.{◌+◌, ◌-◌, ◌≤◌}
-use mathlib.Core.Path.{◌≡◌, sym, ◌∙◌}
-use native.Mathlib.Omega.{arith}
+use mathlib.Core.Path.{◌≡◌}
 use lib.ListN.{get_or}
-use borrow.Author.Rules.{rules}
 use Rattle.lists.specs.Tab.{filled}
-use Rattle.lists.proofs.Tab.{filled_none, filled_more}
-use Rattle.spread.specs.Weight.{lacks_of}
 use Rattle.spread.proofs.lacks.Given as goal
 
 abbrev pub invariant-loop-r : goal.invariant-loop-r

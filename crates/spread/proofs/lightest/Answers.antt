@@ -1,5 +1,4 @@
 -- `spread::lightest` meets its contract. The loop's invariant: `best` is the least loaded of processors 1 to p.
-use Prim.Native.Nat.{◌-◌, ◌≤◌}
 use mathlib.Core.Path.{◌≡◌, sym, ◌∙◌, ap}
 use native.Mathlib.Omega.{arith}
 use borrow.Author.Tests.{lt-ltb, le-ltb}

@@ -1,11 +1,7 @@
 -- `spread::lightest` meets its contract. The loop's invariant: `best` is the least loaded of processors 1 to p.
 use Prim.Native.Nat.{◌-◌, ◌≤◌}
-use mathlib.Core.Path.{◌≡◌, sym, ◌∙◌, ap}
-use native.Mathlib.Omega.{arith}
-use borrow.Author.Tests.{lt-ltb, le-ltb}
-use borrow.Author.Rules.{rules}
+use mathlib.Core.Path.{◌≡◌}
 use Rattle.spread.specs.Spread.{lightest_of}
-use Rattle.spread.proofs.Spread.{lightest_more}
 use Rattle.spread.proofs.lightest.Given as goal
 
 abbrev pub invariant-loop-p : goal.invariant-loop-p

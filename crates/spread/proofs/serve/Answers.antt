@@ -1,10 +1,9 @@
 -- `spread::serve` meets its contract. The loop's invariant: the first j resources of the order are given, and no sum of loads can wrap.
-use Prim.Native.Nat.{ℕ, ◌-◌, ◌<◌, ◌≤◌}
+use Prim.Native.Nat.{ℕ, ◌<◌, ◌≤◌}
 use mathlib.Core.Path.{◌≡◌, ◌∙◌, ap}
 use mathlib.Core.List.{List}
 use native.Mathlib.Omega.{arith}
 use lib.ListN.{get_or}
-use borrow.Author.Rules.{rules}
 use Rattle.spread.specs.Spread.{lightest_of, loads_of, serves_of}
 use Rattle.spread.proofs.Spread.{loads_more, serves_more, loads_le}
 use Rattle.spread.proofs.serve.Goals as goal
@@ -37,10 +36,9 @@ bounds-weight-r c =
 pub overflow_add-load : goal.overflow_add-load
 overflow_add-load c =
     let l = c.loop-j in
-    let a = c in
-    let small : (i : ℕ) → i < a.args.u → get_or a.args.weight.now (get_or a.args.order.now i 0) 0 ≤ 64000000 = λ i k. a.requires.3 (get_or a.args.order.now i 0) (omega (arith, a.requires.2 i k)) in
+    let small : (i : ℕ) → i < c.args.u → get_or c.args.weight.now (get_or c.args.order.now i 0) 0 ≤ 64000000 = λ i k. c.requires.3 (get_or c.args.order.now i 0) (omega (arith, c.requires.2 i k)) in
     let e = ap (λ (x : List ℕ). get_or x c.lightest-p.result 0) l.invariant.2 in
-    omega (arith, e, small l.j (omega arith), loads_le a.args.weight.now a.args.order.now a.args.s l.j (λ i k. small i (omega arith)) c.lightest-p.result)
+    omega (arith, e, small l.j (omega arith), loads_le c.args.weight.now c.args.order.now c.args.s l.j (λ i k. small i (omega arith)) c.lightest-p.result)
 
 pub loop-j-preserved : goal.loop-j-preserved
 loop-j-preserved c =

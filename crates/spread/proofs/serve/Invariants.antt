@@ -1,12 +1,7 @@
 -- `spread::serve` meets its contract. The loop's invariant: the first j resources of the order are given, and no sum of loads can wrap.
-use Prim.Native.Nat.{ℕ, ◌-◌, ◌<◌, ◌≤◌}
-use mathlib.Core.Path.{◌≡◌, ◌∙◌, ap}
-use mathlib.Core.List.{List}
-use native.Mathlib.Omega.{arith}
-use lib.ListN.{get_or}
-use borrow.Author.Rules.{rules}
-use Rattle.spread.specs.Spread.{lightest_of, loads_of, serves_of}
-use Rattle.spread.proofs.Spread.{loads_more, serves_more, loads_le}
+use Prim.Native.Nat.{◌-◌, ◌≤◌}
+use mathlib.Core.Path.{◌≡◌}
+use Rattle.spread.specs.Spread.{loads_of, serves_of}
 use Rattle.spread.proofs.serve.Given as goal
 
 abbrev pub invariant-loop-j : goal.invariant-loop-j

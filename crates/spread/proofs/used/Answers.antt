@@ -1,5 +1,5 @@
 -- `spread::used` meets its contract. The loop's invariant: `u` counts those of the first r resources that weigh something.
-use Prim.Native.Nat.{◌+◌, ◌-◌, ◌≤◌}
+use Prim.Native.Nat.{◌+◌}
 use mathlib.Core.Path.{◌≡◌}
 use native.Mathlib.Omega.{arith}
 use lib.ListN.{get_or}
@@ -22,8 +22,8 @@ loop-r-preserved c =
     let w = c.args.weight.now in
     let more = count_more l.r (λ k. ltb 0 (get_or w (k + 1) 0)) in
     elim c.if-weight-r-gt0.branch [
-      then-weight-r-gt0 w ↦ (omega arith, omega (arith, w.u-is, rw (lt-ltb _ _ w.if-weight-r-gt0.true) at more), omega (arith, w.u-is))
-    | else-weight-r-gt0 w ↦ (omega arith, omega (arith, w.u-is, rw (le-ltb _ _ w.if-weight-r-gt0.false) at more), omega (arith, w.u-is))
+      | then-weight-r-gt0 w ↦ (omega arith, omega (arith, w.u-is, rw (lt-ltb _ _ w.if-weight-r-gt0.true) at more), omega (arith, w.u-is))
+      | else-weight-r-gt0 w ↦ (omega arith, omega (arith, w.u-is, rw (le-ltb _ _ w.if-weight-r-gt0.false) at more), omega (arith, w.u-is))
     ]
 
 pub returns : goal.returns

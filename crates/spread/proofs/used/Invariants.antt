@@ -1,15 +1,9 @@
 -- `spread::used` meets its contract. The loop's invariant: `u` counts those of the first r resources that weigh something.
 use Prim.Native.Nat.{◌+◌, ◌-◌, ◌≤◌}
 use mathlib.Core.Path.{◌≡◌}
-use mathlib.Core.Logic.{⊎_elim}
-use native.Mathlib.Omega.{arith}
 use lib.ListN.{get_or}
 use lib.Dec.{ltb}
-use borrow.Author.Tests.{lt-ltb, le-ltb}
-use borrow.Author.Rules.{rules}
 use Rattle.lists.specs.Count.{count}
-use Rattle.lists.proofs.Count.{count_more}
-use Rattle.spread.specs.Weight.{used_of}
 use Rattle.spread.proofs.used.Given as goal
 
 abbrev pub invariant-loop-r : goal.invariant-loop-r

@@ -2,8 +2,6 @@
 use mathlib.Core.Path.{◌≡◌, sym}
 use mathlib.Core.Bool.{true, false}
 use native.Mathlib.Omega.{arith}
-use borrow.Author.Tests.{not-true, not-false}
-use borrow.Author.Rules.{rules}
 use Rattle.bounds.specs.Demand.{ceil}
 use Rattle.spread.proofs.Weight.{quotient_fits, user_le}
 use Rattle.spread.proofs.weight_by.Goals as goal

@@ -1,5 +1,5 @@
 -- `spread::weight_of` meets its contract. The loop's invariant: `sum` is what the first k rows weigh, at most a million each.
-use Prim.Native.Nat.{ℕ, ◌-◌, ◌*◌, ◌≤◌}
+use Prim.Native.Nat.{ℕ}
 use mathlib.Core.Path.{◌≡◌, ◌∙◌, ap}
 use native.Mathlib.Omega.{arith}
 use borrow.Author.Rules.{rules}
@@ -13,8 +13,7 @@ loop-k-init c = search rules
 
 pub weight_by-sum-requires : goal.weight_by-sum-requires
 weight_by-sum-requires c =
-    let s = c in
-    s.requires.1 c.loop-k.k (omega arith)
+    c.requires.1 c.loop-k.k (omega arith)
 
 pub loop-k-preserved : goal.loop-k-preserved
 loop-k-preserved c =

@@ -1,10 +1,7 @@
 -- `spread::weight_of` meets its contract. The loop's invariant: `sum` is what the first k rows weigh, at most a million each.
-use Prim.Native.Nat.{ℕ, ◌-◌, ◌*◌, ◌≤◌}
-use mathlib.Core.Path.{◌≡◌, ◌∙◌, ap}
-use native.Mathlib.Omega.{arith}
-use borrow.Author.Rules.{rules}
+use Prim.Native.Nat.{◌-◌, ◌*◌, ◌≤◌}
+use mathlib.Core.Path.{◌≡◌}
 use Rattle.spread.specs.Weight.{weight_of}
-use Rattle.spread.proofs.Weight.{weight_more}
 use Rattle.spread.proofs.weight_of.Given as goal
 
 abbrev pub invariant-loop-k : goal.invariant-loop-k

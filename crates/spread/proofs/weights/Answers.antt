@@ -1,9 +1,6 @@
 -- `spread::weights` meets its contract. The loop's invariant: the first r places hold their weights.
-use Prim.Native.Nat.{◌-◌, ◌≤◌}
 use mathlib.Core.Path.{◌≡◌, sym, ◌∙◌}
 use native.Mathlib.Omega.{arith}
-use borrow.Author.Rules.{rules}
-use Rattle.lists.specs.Tab.{filled}
 use Rattle.lists.proofs.Tab.{filled_none, filled_more, filled_all}
 use Rattle.spread.specs.Weight.{weight_of, weights_of}
 use Rattle.spread.proofs.weights.Goals as goal

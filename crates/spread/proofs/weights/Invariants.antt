@@ -1,11 +1,8 @@
 -- `spread::weights` meets its contract. The loop's invariant: the first r places hold their weights.
 use Prim.Native.Nat.{◌-◌, ◌≤◌}
-use mathlib.Core.Path.{◌≡◌, sym, ◌∙◌}
-use native.Mathlib.Omega.{arith}
-use borrow.Author.Rules.{rules}
+use mathlib.Core.Path.{◌≡◌}
 use Rattle.lists.specs.Tab.{filled}
-use Rattle.lists.proofs.Tab.{filled_none, filled_more, filled_all}
-use Rattle.spread.specs.Weight.{weight_of, weights_of}
+use Rattle.spread.specs.Weight.{weight_of}
 use Rattle.spread.proofs.weights.Given as goal
 
 abbrev pub invariant-loop-r : goal.invariant-loop-r

@@ -1,15 +1,12 @@
 -- `stages::first_fit` meets its contract. The loop's invariant: no processor before p has a fit, and the value is the smallest of theirs.
 use Prim.Native.Nat.{ℕ, ◌+◌, ◌-◌, ◌≤◌, ◌<◌}
-use mathlib.Core.Path.{◌≡◌, sym, ◌∙◌, ap}
+use mathlib.Core.Path.{◌≡◌}
 use mathlib.Core.List.{List}
-use native.Mathlib.Omega.{arith}
-use borrow.Author.Rules.{rules}
 use lib.ListN.{get_or}
 use Rattle.bounds.specs.Terms.{lane}
 use Rattle.stages.specs.declared.Fit.{Fit}
-use Rattle.stages.specs.declared.Place.TheVariants.{Nowhere}
-use Rattle.stages.specs.Fit.{fit_among, is_fit}
-use Rattle.stages.proofs.Fitting.{NoFit, no_fit_more, smallest_to, smallest_none, smallest_next, place_at, place_none}
+use Rattle.stages.specs.Fit.{fit_among}
+use Rattle.stages.proofs.Fitting.{NoFit, smallest_to}
 use Rattle.stages.proofs.first_fit.Given as goal
 
 -- how a task of these numbers fits a processor, beside the terms in its lane

@@ -1,5 +1,4 @@
 -- `stages::lower` meets its contract.
-use borrow.Author.Rules.{rules}
 use Rattle.stages.proofs.lower.Goals as goal
 
 pub returns-then-first : goal.returns-then-first

@@ -1,12 +1,11 @@
 -- `stages::place_tasks` meets its contract. The loop's invariant: the first k tasks have their places, and stand in the lanes of their processors.
-use Prim.Native.Nat.{◌-◌, ◌≤◌, ◌<◌}
+use Prim.Native.Nat.{◌<◌}
 use mathlib.Core.Path.{◌≡◌, refl, sym, ◌∙◌, ap}
 use native.Mathlib.Omega.{arith}
-use borrow.Author.Rules.{rules}
 use lib.ListN.{length, get_or}
-use Rattle.bounds.proofs.Lanes.{Lanes, lanes_none, lanes_good}
+use Rattle.bounds.proofs.Lanes.{lanes_none, lanes_good}
 use Rattle.stages.proofs.Fitting.{place_in}
-use Rattle.stages.proofs.Placing.{good_term, Held, length-placed, held_none, held_more, place_found, lanes_next, stages_nowhere, stages_all}
+use Rattle.stages.proofs.Placing.{good_term, length-placed, held_none, held_more, place_found, lanes_next, stages_nowhere, stages_all}
 use Rattle.stages.proofs.place_tasks.Goals as goal
 
 pub loop-k-init : goal.loop-k-init
