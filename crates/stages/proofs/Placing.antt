@@ -41,15 +41,15 @@ module _ (periods c1s c2s works sections : List ℕ) (s m : ℕ) where
   good_term n g k l = record { period = g.period k l; short = (g.work k l).1 }
 
   -- each of the first k tasks has a place
-  abbrev Fit-so-far : ℕ → Type 0
-  Fit-so-far k = (j : ℕ) → j < k → is_nowhere (place_of periods c1s c2s works sections s m j) ≡ false
+  abbrev FitSoFar : ℕ → Type 0
+  FitSoFar k = (j : ℕ) → j < k → is_nowhere (place_of periods c1s c2s works sections s m j) ≡ false
 
   -- the arrays hold the places of the first k tasks
   pub record Held (k : ℕ) (xs ys zs : List ℕ) : Type 0 where
     pub processors : xs ≡ placed periods c1s c2s works sections s m k
     pub d1s : ys ≡ filled 64 0 k (λ j. d1_of (place_of periods c1s c2s works sections s m j))
     pub d2s : zs ≡ filled 64 0 k (λ j. d2_of (place_of periods c1s c2s works sections s m j))
-    pub so_far : Fit-so-far k
+    pub so_far : FitSoFar k
 
   -- blank arrays hold no task
   pub held_none : (xs ys zs : List ℕ) → xs ≡ blank 64 0 → ys ≡ blank 64 0 → zs ≡ blank 64 0 → Held 0 xs ys zs
