@@ -15,14 +15,14 @@ use Rattle.lists.proofs.Sets.{sets_then}
 use Rattle.lists.proofs.Joined.{joined-append, joined_same}
 use Rattle.chain.specs.declared.Job.{Job}
 use Rattle.chain.specs.Job.{no_job, job_at}
-use Rattle.chain.specs.Release.{never, late, due_at, due_of}
+use Rattle.chain.specs.Release.{never, due_at, due_of}
 use Rattle.chain.specs.Good.{GoodJob}
 use Rattle.jobs.specs.Numbers.{job_in, jobs_in}
 use Rattle.jobs.proofs.Laws.{jobs_at_lem, jobs_blank}
 use Rattle.arrivals.specs.declared.Arrival.{Arrival}
 use Rattle.arrivals.specs.Arrival.{brings}
 use Rattle.machine.specs.declared.Chart.{Chart}
-use Rattle.machine.specs.Tick.{noted, late_row, jobs_at, worst_at, late_at, bytes_at}
+use Rattle.machine.specs.Tick.{late_row, jobs_at, worst_at, late_at, bytes_at}
 use Rattle.machine.specs.Good.{GoodChart, GoodJobs, Dues, Held, Coming}
 use Rattle.machine.proofs.Keep.{good_at, past_at, length-worst}
 use Rattle.machine.proofs.Releasing.{late-le}

@@ -1,7 +1,6 @@
 -- `arrivals::comes` meets its contract.
 use Prim.Native.Nat.{◌+◌, ◌*◌}
 use native.Mathlib.Omega.{arith}
-use borrow.Author.Rules.{rules}
 use borrow.Author.Tests.{lt-ltb, le-ltb, eq-eqb, ne_eqb}
 use Rattle.arrivals.proofs.Flat.{is_of_by}
 use Rattle.arrivals.proofs.comes.Goals as goal
@@ -11,13 +10,11 @@ returns-then-next-count c = rw (le-ltb _ _ c.if-next-count.true)
 
 pub returns-then-flat-next : goal.returns-then-flat-next
 returns-then-flat-next c =
-    let s = c in
-    rw (lt-ltb _ _ s.if-next-count.false, is_of_by _ _ _ _ _ s.if-next-count.false, ne_eqb _ _ c.if-flat-next.true)
+    rw (lt-ltb _ _ c.if-next-count.false, is_of_by _ _ _ _ _ c.if-next-count.false, ne_eqb _ _ c.if-flat-next.true)
 
 pub overflow_cast-result : goal.overflow_cast-result
 overflow_cast-result c = omega (arith, c.type_inv.flat (5 * c.args.next + 1))
 
 pub returns : goal.returns
 returns c =
-    let s = c in
-    rw (lt-ltb _ _ s.if-next-count.false, is_of_by _ _ _ _ _ s.if-next-count.false, eq-eqb _ _ c.if-flat-next.false)
+    rw (lt-ltb _ _ c.if-next-count.false, is_of_by _ _ _ _ _ c.if-next-count.false, eq-eqb _ _ c.if-flat-next.false)

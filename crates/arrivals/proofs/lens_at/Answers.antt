@@ -1,6 +1,5 @@
 -- `arrivals::lens_at` meets its contract.
 use mathlib.Core.Path.{sym, ap}
-use borrow.Author.Rules.{rules}
 use Rattle.arrivals.specs.Arrival.{lens_of, arrival_in}
 use Rattle.arrivals.proofs.Flat.{arrival_at_lem}
 use Rattle.arrivals.proofs.lens_at.Goals as goal

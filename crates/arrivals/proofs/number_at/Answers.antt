@@ -4,12 +4,11 @@ use mathlib.Core.Bool.{true≢false}
 use mathlib.Core.List.{List}
 use mathlib.Core.Path.{◌≡◌, sym, ◌∙◌, ap}
 use native.Mathlib.Omega.{arith}
-use borrow.Author.Tests.{ltb-true, ltb-false}
 use lib.ListN.{get_or}
 use Rattle.arrivals.specs.Arrival.{Arrival, arrival_in, arrivals_of}
 use Rattle.arrivals.specs.Check.{last_of}
 use Rattle.arrivals.proofs.Flat.{arrival_at_lem}
-use Rattle.arrivals.proofs.Fine.{RowFine, TickFine, LengthsFine, number_15, number_16, number_17, number_18, number_none}
+use Rattle.arrivals.proofs.Fine.{number_15, number_16, number_17, number_18, number_none}
 use Rattle.arrivals.proofs.number_at.Goals.{then-row-eq0-via-then-row-eq0, then-row-eq0-via-else-row-eq0+then-row-n}
 use Rattle.arrivals.proofs.number_at.Goals.{then-tick-ge1000000-via-then-tick-ge1000000, then-tick-ge1000000-via-else-tick-ge1000000+then-disordered}
 use Rattle.arrivals.proofs.number_at.Goals.{then-flat-at-via-then-flat-at, then-flat-at-via-else-flat-at+then-flat-at-2, then-flat-at-via-else-flat-at+else-flat-at-2+then-flat-at-3}
@@ -35,8 +34,8 @@ returns-then-row-eq0 c =
     (number_15 _ _ _ _ _ _ _ _ (arrival_at_lem a.flat.now a.count a.k c.requires.0)
     (λ r.
     elim c.then-row-eq0.branch [
-      then-row-eq0-via-then-row-eq0 w ↦ omega (arith, w.if-row-eq0.true, r.0)
-    | then-row-eq0-via-else-row-eq0+then-row-n w ↦ omega (arith, w.if-row-n.true, r.1)
+      | then-row-eq0-via-then-row-eq0 w ↦ omega (arith, w.if-row-eq0.true, r.0)
+      | then-row-eq0-via-else-row-eq0+then-row-n w ↦ omega (arith, w.if-row-n.true, r.1)
     ]))
 
 pub returns-then-tick-ge1000000 : goal.returns-then-tick-ge1000000
@@ -47,8 +46,8 @@ returns-then-tick-ge1000000 c =
     (number_16 _ _ _ _ _ _ _ _ (arrival_at_lem a.flat.now a.count a.k c.requires.0) (omega (arith, c.if-row-eq0.false), omega (arith, c.if-row-n.false))
     (λ t.
     elim c.then-tick-ge1000000.branch [
-      then-tick-ge1000000-via-then-tick-ge1000000 w ↦ omega (arith, w.if-tick-ge1000000.true, t.0)
-    | then-tick-ge1000000-via-else-tick-ge1000000+then-disordered w ↦ true≢false (sym w.if-disordered.true ∙ w.disordered.ensures ∙ t.1)
+      | then-tick-ge1000000-via-then-tick-ge1000000 w ↦ omega (arith, w.if-tick-ge1000000.true, t.0)
+      | then-tick-ge1000000-via-else-tick-ge1000000+then-disordered w ↦ true≢false (sym w.if-disordered.true ∙ w.disordered.ensures ∙ t.1)
     ]))
 
 pub returns-then-flat-at : goal.returns-then-flat-at
@@ -60,9 +59,9 @@ returns-then-flat-at c =
     (omega (arith, c.if-row-eq0.false), omega (arith, c.if-row-n.false)) (omega (arith, c.if-tick-ge1000000.false), sym c.disordered.ensures ∙ c.if-disordered.false)
     (λ l.
     elim c.then-flat-at.branch [
-      then-flat-at-via-then-flat-at w ↦ omega (arith, w.if-flat-at.true, l.0)
-    | then-flat-at-via-else-flat-at+then-flat-at-2 w ↦ omega (arith, w.if-flat-at-2.true, l.1)
-    | then-flat-at-via-else-flat-at+else-flat-at-2+then-flat-at-3 w ↦ omega (arith, w.if-flat-at-3.true, l.2)
+      | then-flat-at-via-then-flat-at w ↦ omega (arith, w.if-flat-at.true, l.0)
+      | then-flat-at-via-else-flat-at+then-flat-at-2 w ↦ omega (arith, w.if-flat-at-2.true, l.1)
+      | then-flat-at-via-else-flat-at+else-flat-at-2+then-flat-at-3 w ↦ omega (arith, w.if-flat-at-3.true, l.2)
     ]))
 
 pub overflow_add-mark : goal.overflow_add-mark
@@ -94,8 +93,8 @@ returns c =
       tick = (omega (arith, c.if-tick-ge1000000.false), sym c.disordered.ensures ∙ c.if-disordered.false);
       lengths = (omega (arith, c.if-flat-at.false), omega (arith, c.if-flat-at-2.false), omega (arith, c.if-flat-at-3.false));
       period = λ z.
-        elim c.else-mark-gt0.branch [
-          else-mark-gt0-via-then-mark-gt0+else-tick-mark w ↦ omega (arith, m.2, w.if-tick-mark.false)
-        | else-mark-gt0-via-else-mark-gt0 w ↦ absurd (omega (arith, m.2, z, w.if-mark-gt0.false))
-        ];
+          elim c.else-mark-gt0.branch [
+            | else-mark-gt0-via-then-mark-gt0+else-tick-mark w ↦ omega (arith, m.2, w.if-tick-mark.false)
+            | else-mark-gt0-via-else-mark-gt0 w ↦ absurd (omega (arith, m.2, z, w.if-mark-gt0.false))
+          ];
     }))

@@ -1,7 +1,6 @@
 -- `arrivals::put` meets its contract.
 use Prim.Native.Nat.{◌*◌}
 use native.Mathlib.Omega.{arith}
-use borrow.Author.Rules.{rules}
 use lib.ListN.{length-set}
 use Rattle.arrivals.proofs.Flat.{five_stores}
 use Rattle.arrivals.proofs.put.Goals as goal

@@ -3,8 +3,6 @@ use Prim.Native.Nat.{ℕ}
 use mathlib.Core.Path.{◌≡◌, ◌∙◌}
 use mathlib.Core.Bool.{true, false}
 use mathlib.Core.List.{List}
-use mathlib.Core.Logic.{⊎_elim}
-use borrow.Author.Rules.{rules}
 use Rattle.lists.specs.Tab.{blank}
 use Rattle.table.specs.declared.Table.{Table}
 use Rattle.plan.specs.declared.Plan.{Plan}
@@ -29,22 +27,20 @@ ceilings t top e h = e ∙ rw h
 
 pub of_resource-locks-requires : goal.of_resource-locks-requires
 of_resource-locks-requires c =
-    let s = c in
-    (s.requires.rows.1, λ k h. (s.requires.tasks k h).resource)
+    (c.requires.rows.1, λ k h. (c.requires.tasks k h).resource)
 
 pub of_resource-tops-requires : goal.of_resource-tops-requires
 of_resource-tops-requires c =
-    let s = c in
-    (s.requires.rows.1, λ k h. (s.requires.tasks k h).resource)
+    (c.requires.rows.1, λ k h. (c.requires.tasks k h).resource)
 
 pub returns : goal.returns
 returns c =
     let a = c.args in
     let joined = c.if-t in
     let top : joined.top ≡ tops_of a.t =
-      elim joined.branch [
-        then-t w ↦ none a.t joined.top (w.top-is ∙ w.no_column-top.ensures) w.if-t.true
+    elim joined.branch [
+      | then-t w ↦ none a.t joined.top (w.top-is ∙ w.no_column-top.ensures) w.if-t.true
       | else-t w ↦ ceilings a.t joined.top (w.top-is ∙ c.of_resource-tops.ensures) w.if-t.false
-      ]
+    ]
     in
     made a.t a.p c.of_resource-locks.result joined.top c.interleaved.result c.interleaved-2.result c.of_resource-locks.ensures top c.interleaved.ensures c.interleaved-2.ensures

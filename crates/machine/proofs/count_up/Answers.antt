@@ -1,5 +1,4 @@
 -- `machine::count_up` meets its contract: the sums of the first i jobs are counted.
-use Prim.Native.Nat.{◌*◌, ◌-◌, ◌≤◌}
 use mathlib.Core.Path.{◌≡◌, sym, ◌∙◌}
 use native.Mathlib.Omega.{arith}
 use borrow.Author.Rules.{rules}
@@ -18,31 +17,21 @@ pub loop-i-init : goal.loop-i-init
 unfolding total
 loop-i-init c = search rules
 
-pub overflow_add-ended : goal.overflow_add-ended
-overflow_add-ended c = omega (arith, c.struct_known-1.given.1.1.1.1.0.fits)
-
-pub overflow_add-run : goal.overflow_add-run
-overflow_add-run c = omega (arith, c.struct_known-in-loop-i-1.given.1.1.1.1.1.0.fits)
-
 pub owed-owed-requires : goal.owed-owed-requires
 owed-owed-requires c =
-    let s = c in
-    rw c.job_at-x.ensures (s.requires.2 c.loop-i.i (omega arith))
+    rw c.job_at-x.ensures (c.requires.2 c.loop-i.i (omega arith))
 
 pub loop-i-preserved : goal.loop-i-preserved
 loop-i-preserved c =
-    let s = c in
     let l = c.loop-i in
     let v = l.invariant in
-    let js = jobs_in s.args.jobs.now in
-    let x : c.job_at-x.result ≡ job_at js l.i = c.job_at-x.ensures ∙ sym (jobs_at_lem s.args.jobs.now l.i (omega arith)) in
-    let ended = c.struct_known-1.given.1.1.1.1.0.fits in
-    let ran = c.struct_known-in-loop-i-1.given.1.1.1.1.1.0.fits in (
+    let js = jobs_in c.args.jobs.now in
+    let x : c.job_at-x.result ≡ job_at js l.i = c.job_at-x.ensures ∙ sym (jobs_at_lem c.args.jobs.now l.i (omega arith)) in (
       omega arith,
       rw x (total_more (λ x. x.ended) js l.i l.ended v.1),
-      omega (arith, ended),
+      omega arith,
       rw x (total_more (λ x. x.ran) js l.i l.run v.3),
-      omega (arith, ran),
+      omega arith,
       rw (c.owed-owed.ensures.0, x) (total_more (λ x. owes x.lens x.place) js l.i l.owed v.5),
       omega arith,
     )

@@ -1,15 +1,10 @@
 -- `machine::count_up` meets its contract: the sums of the first i jobs are counted.
 use Prim.Native.Nat.{◌*◌, ◌-◌, ◌≤◌}
-use mathlib.Core.Path.{◌≡◌, sym, ◌∙◌}
-use native.Mathlib.Omega.{arith}
-use borrow.Author.Rules.{rules}
+use mathlib.Core.Path.{◌≡◌}
 use Rattle.chain.specs.Job.{job_at}
 use Rattle.chain.specs.Owed.{owes}
 use Rattle.jobs.specs.Numbers.{jobs_in}
-use Rattle.jobs.proofs.Laws.{jobs_at_lem}
 use Rattle.lists.specs.Total.{total}
-use Rattle.machine.specs.Counts.{tally_of}
-use Rattle.machine.proofs.Served.{total_more}
 use Rattle.machine.proofs.count_up.Given as goal
 
 abbrev pub invariant-loop-i : goal.invariant-loop-i

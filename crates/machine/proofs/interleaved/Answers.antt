@@ -1,9 +1,7 @@
 -- `machine::interleaved` meets its contract: the numbers of the first i rows are written.
-use Prim.Native.Nat.{◌-◌, ◌≤◌}
 use mathlib.Core.Path.{◌∙◌, sym, ◌≡◌}
 use native.Mathlib.Omega.{arith}
 use borrow.Author.Rules.{rules}
-use Rattle.machine.specs.Chart.{threes}
 use Rattle.machine.proofs.Threes.{threes_none, threes_more, length-threes}
 use Rattle.machine.proofs.interleaved.Goals as goal
 

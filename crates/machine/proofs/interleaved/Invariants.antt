@@ -1,10 +1,7 @@
 -- `machine::interleaved` meets its contract: the numbers of the first i rows are written.
 use Prim.Native.Nat.{◌-◌, ◌≤◌}
-use mathlib.Core.Path.{◌∙◌, sym, ◌≡◌}
-use native.Mathlib.Omega.{arith}
-use borrow.Author.Rules.{rules}
+use mathlib.Core.Path.{◌≡◌}
 use Rattle.machine.specs.Chart.{threes}
-use Rattle.machine.proofs.Threes.{threes_none, threes_more, length-threes}
 use Rattle.machine.proofs.interleaved.Given as goal
 
 abbrev pub invariant-loop-i : goal.invariant-loop-i

@@ -3,7 +3,6 @@ use Prim.Native.Nat.{◌≤◌}
 use mathlib.Core.Path.{◌≡◌, sym, ◌∙◌, ap}
 use native.Mathlib.Omega.{arith}
 use native.Mathlib.Numerals.{add-one}
-use borrow.Author.Rules.{rules}
 use Rattle.machine.specs.Tick.{kind_of}
 use Rattle.chain.proofs.Places.{rests, part_small}
 use Rattle.machine.proofs.kind_of.Goals as goal

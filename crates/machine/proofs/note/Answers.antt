@@ -4,7 +4,6 @@ use mathlib.Core.Path.{◌≡◌, refl, sym, ◌∙◌, ap}
 use mathlib.Core.List.{List}
 use native.Mathlib.Omega.{arith}
 use borrow.Author.Tests.{lt-ltb, le-ltb}
-use borrow.Author.Rules.{rules}
 use lib.ListN.{get_or, set}
 use Rattle.chain.specs.declared.Place.TheVariants.{Running}
 use Rattle.chain.specs.declared.Job.{Job}
@@ -37,18 +36,15 @@ returns-then-left-gt1 c =
 
 pub response-response-requires : goal.response-response-requires
 response-response-requires c =
-    let s = c in
-    (s.requires.0, s.requires.2, omega arith, s.requires.3.arrived, part_small s.args.x.place c.in-Running.part c.in-Running.left s.requires.3.part c.in-Running.is)
+    (c.requires.0, c.requires.2, omega arith, c.requires.3.arrived, part_small c.args.x.place c.in-Running.part c.in-Running.left c.requires.3.part c.in-Running.is)
 
 pub bounds-worst-k : goal.bounds-worst-k
 bounds-worst-k c =
-    let s = c in
-    omega (arith, s.requires.4, part_small s.args.x.place c.in-Running.part c.in-Running.left s.requires.3.part c.in-Running.is)
+    omega (arith, c.requires.4, part_small c.args.x.place c.in-Running.part c.in-Running.left c.requires.3.part c.in-Running.is)
 
 pub bounds-worst-k-2 : goal.bounds-worst-k-2
 bounds-worst-k-2 c =
-    let s = c in
-    omega (arith, s.requires.4, part_small s.args.x.place c.in-Running.part c.in-Running.left s.requires.3.part c.in-Running.is)
+    omega (arith, c.requires.4, part_small c.args.x.place c.in-Running.part c.in-Running.left c.requires.3.part c.in-Running.is)
 
 pub returns : goal.returns
 returns c =

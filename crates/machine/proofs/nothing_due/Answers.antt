@@ -2,9 +2,7 @@
 use Prim.Native.Nat.{◌<◌}
 use mathlib.Core.Path.{sym}
 use mathlib.Core.Bool.{true≢false}
-use mathlib.Core.Logic.{⊎_elim}
 use native.Mathlib.Omega.{arith}
-use borrow.Author.Rules.{rules}
 use borrow.Author.Tests.{ltb-true}
 use Rattle.arrivals.specs.Arrival.{arrival_in}
 use Rattle.arrivals.proofs.Flat.{arrival_at_lem}

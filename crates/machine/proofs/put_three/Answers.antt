@@ -2,7 +2,6 @@
 use Prim.Native.Nat.{suc, ◌+◌, ◌*◌}
 use mathlib.Core.Path.{◌≡◌}
 use native.Mathlib.Omega.{arith}
-use borrow.Author.Rules.{rules}
 use lib.ListN.{length-set}
 use Rattle.machine.proofs.put_three.Goals as goal
 

@@ -1,16 +1,7 @@
 -- `machine::release_each` meets its contract: the first i rows have their releases, none of them too early.
 use Prim.Native.Nat.{◌-◌, ◌≤◌}
-use mathlib.Core.Path.{sym, ◌∙◌, ◌≡◌}
-use mathlib.Core.Bool.{Bool, true, false, ◌&&◌}
-use mathlib.Core.Logic.{⊎_elim}
-use native.Mathlib.Omega.{arith}
-use native.Mathlib.Nat.{add-zero}
-use borrow.Author.Rules.{rules}
-use lib.Dec.{ltb}
-use lib.ListN.{length}
-use Rattle.arrivals.specs.Arrival.{is_of, arrivals_of}
-use Rattle.arrivals.proofs.Flat.{length_arrivals}
-use Rattle.machine.proofs.Releasing.{stands, Went-on, started, good_here, is_late_lem, goes_on, stays, all_in}
+use Rattle.arrivals.specs.Arrival.{arrivals_of}
+use Rattle.machine.proofs.Releasing.{Went-on}
 use Rattle.machine.proofs.release_each.Given as goal
 
 abbrev pub invariant-loop-i : goal.invariant-loop-i

@@ -4,7 +4,6 @@ use mathlib.Core.Path.{◌≡◌, refl, sym, ◌∙◌, ap}
 use mathlib.Core.List.{List}
 use native.Mathlib.Omega.{arith}
 use borrow.Author.Tests.{eq-eqb, ne_eqb}
-use borrow.Author.Rules.{rules}
 use lib.ListN.{get_or}
 use Rattle.chain.specs.declared.Place.TheVariants.{Running}
 use Rattle.chain.specs.declared.Job.{Job}
@@ -33,8 +32,7 @@ returns-in_default c =
 
 pub bounds-homes-i : goal.bounds-homes-i
 bounds-homes-i c =
-    let s = c in
-    omega (arith, part_small s.args.x.place c.in-Running.part c.in-Running.left s.requires.4.part c.in-Running.is)
+    omega (arith, part_small c.args.x.place c.in-Running.part c.in-Running.left c.requires.4.part c.in-Running.is)
 
 pub overflow_cast-q-2 : goal.overflow_cast-q-2
 overflow_cast-q-2 c = omega (arith, c.requires.3 (3 * c.args.i + c.in-Running.part))
@@ -52,8 +50,7 @@ returns-then-row-i c =
 
 pub unit-requires : goal.unit-requires
 unit-requires c =
-    let s = c in
-    (s.requires.0, s.requires.2, omega arith, s.requires.4.arrived, part_small s.args.x.place c.in-Running.part c.in-Running.left s.requires.4.part c.in-Running.is, s.requires.5, s.requires.6)
+    (c.requires.0, c.requires.2, omega arith, c.requires.4.arrived, part_small c.args.x.place c.in-Running.part c.in-Running.left c.requires.4.part c.in-Running.is, c.requires.5, c.requires.6)
 
 pub returns : goal.returns
 returns c =

@@ -1,9 +1,7 @@
 -- `machine::soonest` meets its contract. The loop's invariant: the tick is the first of the next releases of the rows passed.
-use Prim.Native.Nat.{ℕ, ◌-◌, ◌≤◌}
+use Prim.Native.Nat.{ℕ}
 use mathlib.Core.Path.{◌≡◌, refl, sym, ◌∙◌, ap}
-use mathlib.Core.Logic.{⊎_elim}
 use native.Mathlib.Omega.{arith}
-use borrow.Author.Rules.{rules}
 use Rattle.machine.specs.Good.{soonest_of}
 use Rattle.machine.proofs.Dues.{soonest_first, soonest_kept}
 use Rattle.machine.proofs.soonest.Goals.{then-d-tick, else-d-tick}
@@ -16,12 +14,11 @@ loop-i-init c = (omega arith, refl)
 pub loop-i-preserved : goal.loop-i-preserved
 loop-i-preserved c =
     let l = c.loop-i in
-    let due = c.args.due.now in
-    (
+    let due = c.args.due.now in (
       omega arith,
       elim c.if-d-tick.branch [
-        then-d-tick w ↦ w.tick-is ∙ sym (soonest_first due l.i (omega (arith, w.if-d-tick.true, l.invariant.1)))
-      | else-d-tick w ↦ w.tick-is ∙ l.invariant.1 ∙ sym (soonest_kept due l.i (omega (arith, w.if-d-tick.false, l.invariant.1)))
+        | then-d-tick w ↦ w.tick-is ∙ sym (soonest_first due l.i (omega (arith, w.if-d-tick.true, l.invariant.1)))
+        | else-d-tick w ↦ w.tick-is ∙ l.invariant.1 ∙ sym (soonest_kept due l.i (omega (arith, w.if-d-tick.false, l.invariant.1)))
       ],
     )
 

@@ -1,11 +1,7 @@
 -- `machine::soonest` meets its contract. The loop's invariant: the tick is the first of the next releases of the rows passed.
-use Prim.Native.Nat.{ℕ, ◌-◌, ◌≤◌}
-use mathlib.Core.Path.{◌≡◌, refl, sym, ◌∙◌, ap}
-use mathlib.Core.Logic.{⊎_elim}
-use native.Mathlib.Omega.{arith}
-use borrow.Author.Rules.{rules}
+use Prim.Native.Nat.{◌-◌, ◌≤◌}
+use mathlib.Core.Path.{◌≡◌}
 use Rattle.machine.specs.Good.{soonest_of}
-use Rattle.machine.proofs.Dues.{soonest_first, soonest_kept}
 use Rattle.machine.proofs.soonest.Given as goal
 
 abbrev pub invariant-loop-i : goal.invariant-loop-i

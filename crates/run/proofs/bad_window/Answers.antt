@@ -3,7 +3,6 @@ use Prim.Native.Nat.{◌+◌}
 use mathlib.Core.Path.{refl}
 use native.Mathlib.Omega.{arith}
 use borrow.Author.Tests.{lt-ltb, le-ltb}
-use borrow.Author.Rules.{rules}
 use Rattle.run.proofs.bad_window.Goals as goal
 
 pub returns-then-ticks-gt4096 : goal.returns-then-ticks-gt4096

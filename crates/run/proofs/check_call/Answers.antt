@@ -6,7 +6,6 @@ use Rattle.arrivals.proofs.Flat.{length_arrivals}
 use Rattle.arrivals.specs.declared.Heard.{Heard}
 use Rattle.arrivals.specs.Arrival.{arrivals_of}
 use Rattle.run.proofs.Calls.{bad_window_lem, too_short, too_many, as_heard, window_small}
-use borrow.Author.Rules.{rules}
 use Rattle.run.proofs.check_call.Goals as goal
 
 pub returns-then-bad_window : goal.returns-then-bad_window

@@ -1,17 +1,14 @@
 -- `run::play` meets its contract: the numbers stand as after ticks 0 to from + k - 1, and the trace begins with the bytes of the last
 -- k of them; or a release came too early in tick from + k.
-use Prim.Native.Nat.{ℕ, ◌+◌, ◌-◌, ◌*◌, ◌≤◌}
+use Prim.Native.Nat.{ℕ, ◌+◌, ◌*◌, ◌≤◌}
 use mathlib.Core.Path.{◌≡◌, refl, sym, ap, ◌∙◌}
 use mathlib.Core.List.{◌++◌}
 use native.Mathlib.Omega.{arith}
 use native.Mathlib.Nat.{add-zero, add_assoc, mul-le-mul_left, mul-le-mul_right}
-use borrow.Author.Rules.{rules}
 use lib.ListN.{length, drop}
 use lib.Seq.{sets, length-sets, drop_at}
 use Rattle.lists.specs.Tab.{joined}
 use Rattle.arrivals.specs.Arrival.{arrivals_of}
-use Rattle.machine.specs.Chart.{chart}
-use Rattle.run.specs.State.{Stands}
 use Rattle.run.specs.Run.{log}
 use Rattle.run.proofs.Front.{front_is, front_rest, more_ticks}
 use Rattle.run.proofs.Window.{length-log}
@@ -21,8 +18,7 @@ use Rattle.run.proofs.play.Goals as goal
 pub loop-k-init : goal.loop-k-init
 unfolding log joined
 loop-k-init c =
-    let s = c in
-    (omega arith, rw (add-zero s.args.from) s.requires.6, refl, refl)
+    (omega arith, rw (add-zero c.args.from) c.requires.6, refl, refl)
 
 pub overflow_add-from : goal.overflow_add-from
 overflow_add-from c = omega (arith, c.loop-k.invariant.0, c.requires.0)
@@ -62,12 +58,11 @@ shape_of-trace-then-r-n c =
 
 pub returns-then-r-n : goal.returns-then-r-n
 returns-then-r-n c =
-    let s = c in
-    let a = s.args in
+    let a = c.args in
     let l = c.loop-k in
     let all = log a.c (arrivals_of a.flat.now a.count) a.from l.k in (
       went_off l.invariant.1 _ _ _ _ _ _ c.stretch-r.ensures (omega (arith, c.loop-k-test.true)) c.if-r-n.true,
-      ap (drop (a.c.m * a.ticks)) l.invariant.3 ∙ front_rest a.trace.now all (a.c.m * a.ticks) (omega (arith, length-log a.c (arrivals_of a.flat.now a.count) a.from l.k, mul-le-mul_left a.c.m l.invariant.0)) s.requires.5,
+      ap (drop (a.c.m * a.ticks)) l.invariant.3 ∙ front_rest a.trace.now all (a.c.m * a.ticks) (omega (arith, length-log a.c (arrivals_of a.flat.now a.count) a.from l.k, mul-le-mul_left a.c.m l.invariant.0)) c.requires.5,
       λ q. absurd (omega (arith, c.if-r-n.true)),
     )
 
@@ -80,13 +75,12 @@ room m w k r e size had q h l same = rw (q, same) (omega (arith, more_ticks m k 
 
 pub put_lanes-requires : goal.put_lanes-requires
 put_lanes-requires c =
-    let s = c in
-    let a = s.args in
+    let a = c.args in
     let l = c.loop-k in
     let o = c.stretch-r in
-    let w = c.stretch-r.auto.lane ∙ l.invariant.2 ∙ s.requires.4 in
+    let w = c.stretch-r.auto.lane ∙ l.invariant.2 ∙ c.requires.4 in
     let far = led_far l.invariant.1 _ _ _ o.new.due _ _ o.ensures c.if-r-n.false in
-    room a.c.m _ l.k _ a.ticks (length a.trace.now) _ w (omega (arith, far.1)) s.requires.5
+    room a.c.m _ l.k _ a.ticks (length a.trace.now) _ w (omega (arith, far.1)) c.requires.5
     (ap length l.invariant.3 ∙ length-sets a.trace.now 0 (log a.c (arrivals_of a.flat.now a.count) a.from l.k))
 
 pub overflow_add-k : goal.overflow_add-k
@@ -102,15 +96,14 @@ loop-k-smaller c =
 
 pub loop-k-preserved : goal.loop-k-preserved
 loop-k-preserved c =
-    let s = c in
-    let a = s.args in
+    let a = c.args in
     let xs = arrivals_of a.flat.now a.count in
     let l = c.loop-k in
     let i = l.invariant in
     let o = c.stretch-r in
     let left = c.if-r-n.false in
     let far = led_far i.1 _ _ _ o.new.due _ _ o.ensures left in
-    let w = c.stretch-r.auto.lane ∙ i.2 ∙ s.requires.4 in (
+    let w = c.stretch-r.auto.lane ∙ i.2 ∙ c.requires.4 in (
       omega (arith, far.1),
       rw (sym (add_assoc a.from l.k o.result.ticks)) (led_on i.1 _ _ _ _ _ _ o.ensures left),
       c.stretch-r.auto.lane ∙ i.2,
@@ -137,14 +130,13 @@ shape_of-trace c =
 
 pub returns : goal.returns
 returns c =
-    let s = c in
-    let a = s.args in
+    let a = c.args in
     let l = c.loop-k in
     let size = a.c.m * a.ticks in
     let xs = arrivals_of a.flat.now a.count in
     let all = log a.c xs a.from a.ticks in
     let q : l.k ≡ a.ticks = omega (arith, l.invariant.0, c.loop-k-test.false) in
-    let e : l.trace ≡ all ++ drop size a.trace.now = l.invariant.3 ∙ ap (λ (k : ℕ). sets a.trace.now 0 (log a.c xs a.from k)) q ∙ front_is a.trace.now all size (length-log a.c xs a.from a.ticks) s.requires.5 in (
+    let e : l.trace ≡ all ++ drop size a.trace.now = l.invariant.3 ∙ ap (λ (k : ℕ). sets a.trace.now 0 (log a.c xs a.from k)) q ∙ front_is a.trace.now all size (length-log a.c xs a.from a.ticks) c.requires.5 in (
       went_all l.invariant.1 (ap (λ (k : ℕ). a.from + k) q),
       ap (drop size) e ∙ drop_at all (drop size a.trace.now) size (length-log a.c xs a.from a.ticks),
       λ z. e,

@@ -1,21 +1,13 @@
 -- `run::play` meets its contract: the numbers stand as after ticks 0 to from + k - 1, and the trace begins with the bytes of the last
 -- k of them; or a release came too early in tick from + k.
-use Prim.Native.Nat.{ℕ, ◌+◌, ◌-◌, ◌*◌, ◌≤◌}
-use mathlib.Core.Path.{◌≡◌, refl, sym, ap, ◌∙◌}
-use mathlib.Core.List.{◌++◌}
-use native.Mathlib.Omega.{arith}
-use native.Mathlib.Nat.{add-zero, add_assoc, mul-le-mul_left, mul-le-mul_right}
-use borrow.Author.Rules.{rules}
-use lib.ListN.{length, drop}
-use lib.Seq.{sets, length-sets, drop_at}
-use Rattle.lists.specs.Tab.{joined}
+use Prim.Native.Nat.{◌+◌, ◌-◌, ◌≤◌}
+use mathlib.Core.Path.{◌≡◌}
+use lib.ListN.{length}
+use lib.Seq.{sets}
 use Rattle.arrivals.specs.Arrival.{arrivals_of}
 use Rattle.machine.specs.Chart.{chart}
 use Rattle.run.specs.State.{Stands}
 use Rattle.run.specs.Run.{log}
-use Rattle.run.proofs.Front.{front_is, front_rest, more_ticks}
-use Rattle.run.proofs.Window.{length-log}
-use Rattle.run.proofs.Steps.{holds, worst_whole, went_off, went_all, led_on, led_far, led_shown, shown_more}
 use Rattle.run.proofs.play.Given as goal
 
 abbrev pub invariant-loop-k : goal.invariant-loop-k

@@ -1,10 +1,8 @@
 -- `run::put_lanes` meets its contract: the lane is written k times, one behind the other.
-use Prim.Native.Nat.{ℕ, ◌+◌, ◌-◌, ◌*◌, ◌≤◌}
+use Prim.Native.Nat.{ℕ, ◌+◌, ◌*◌, ◌≤◌}
 use mathlib.Core.Path.{◌≡◌, refl}
 use native.Mathlib.Omega.{arith}
-use borrow.Author.Rules.{rules}
 use lib.ListN.{length}
-use lib.Seq.{sets}
 use Rattle.lists.specs.Tab.{joined}
 use Rattle.lists.proofs.Sets.{stored_length}
 use Rattle.lists.proofs.Joined.{joined_next}
@@ -21,19 +19,16 @@ room m at k ticks size h l = omega (arith, more_ticks m k 1 ticks h)
 
 pub overflow_mul-m : goal.overflow_mul-m
 overflow_mul-m c =
-    let s = c in
-    omega (arith, room (length s.args.lane.now) s.args.at c.loop-k.k s.args.ticks (length s.args.trace.now) (omega arith) s.requires)
+    omega (arith, room (length c.args.lane.now) c.args.at c.loop-k.k c.args.ticks (length c.args.trace.now) (omega arith) c.requires)
 
 pub overflow_add-at : goal.overflow_add-at
 overflow_add-at c =
-    let s = c in
-    omega (arith, room (length s.args.lane.now) s.args.at c.loop-k.k s.args.ticks (length s.args.trace.now) (omega arith) s.requires)
+    omega (arith, room (length c.args.lane.now) c.args.at c.loop-k.k c.args.ticks (length c.args.trace.now) (omega arith) c.requires)
 
 pub store-requires : goal.store-requires
 store-requires c =
-    let s = c in
     let l = c.loop-k in
-    omega (arith, room (length s.args.lane.now) s.args.at l.k s.args.ticks (length s.args.trace.now) (omega arith) s.requires, stored_length s.args.trace.now s.args.at (joined l.k (λ i. s.args.lane.now)) l.invariant.1)
+    omega (arith, room (length c.args.lane.now) c.args.at l.k c.args.ticks (length c.args.trace.now) (omega arith) c.requires, stored_length c.args.trace.now c.args.at (joined l.k (λ i. c.args.lane.now)) l.invariant.1)
 
 pub loop-k-preserved : goal.loop-k-preserved
 loop-k-preserved c =

@@ -1,6 +1,5 @@
 -- `run::refused` meets its contract.
 use mathlib.Core.Path.{refl}
-use borrow.Author.Rules.{rules}
 use Rattle.run.proofs.refused.Goals as goal
 
 pub returns : goal.returns

@@ -12,7 +12,6 @@ use native.Mathlib.Omega.{arith}
 use Rattle.table.proofs.Good.{table_good}
 use Rattle.arrivals.specs.Arrival.{arrivals_of}
 use Rattle.run.proofs.Calls.{bad_table, no_plan_lem, bad_call, runs, allowed}
-use borrow.Author.Rules.{rules}
 use Rattle.run.proofs.run_flat.Goals as goal
 
 none : {x : ℕ} → x ≤ 0 → x ≡ 0

@@ -11,14 +11,12 @@ use Rattle.arrivals.specs.Arrival.{arrivals_of}
 use Rattle.run.specs.Run.{done}
 use Rattle.run.proofs.Steps.{starts, good_in}
 use Rattle.run.proofs.Ends.{fell, stood}
-use borrow.Author.Rules.{rules}
 use Rattle.run.proofs.run_ticks.Goals as goal
 
 pub wind-before-requires : goal.wind-before-requires
 wind-before-requires c =
-    let s = c in
-    let p = s.requires in
-    let start = starts s.args.c (arrivals_of s.args.flat.now s.args.count) p.4.homed.few p.6 in
+    let p = c.requires in
+    let start = starts c.args.c (arrivals_of c.args.flat.now c.args.count) p.4.homed.few p.6 in
     (omega (arith, p.0), p.2, p.3, p.4, omega arith, rw (c.no_jobs-jobs.ensures, c.no_dues-due.ensures, c.no_threes-worst.ensures) start)
 
 pub overflow_cast-before : goal.overflow_cast-before

@@ -1,13 +1,10 @@
 -- `run::wind` meets its contract: the numbers stand as after ticks 0 to t - 1, or a release came too early in tick t.
 use Prim.Native.Nat.{◌-◌, ◌≤◌}
-use mathlib.Core.Path.{◌≡◌, refl, sym, ◌∙◌}
-use native.Mathlib.Omega.{arith}
-use borrow.Author.Rules.{rules}
+use mathlib.Core.Path.{◌≡◌}
 use lib.ListN.{length}
 use Rattle.arrivals.specs.Arrival.{arrivals_of}
 use Rattle.machine.specs.Chart.{chart}
 use Rattle.run.specs.State.{Stands}
-use Rattle.run.proofs.Steps.{holds, worst_whole, went_off, went_all, led_on, led_far}
 use Rattle.run.proofs.wind.Given as goal
 
 abbrev pub invariant-loop-t : goal.invariant-loop-t

@@ -2,12 +2,9 @@
 use Rattle.run.proofs.Front.{length_front, blank_more}
 use Rattle.lists.proofs.Tab.{length-blank}
 use Rattle.lists.specs.Tab.{blank}
-use lib.ListN.{length, drop}
+use lib.ListN.{length}
 use native.Mathlib.Omega.{arith}
-use mathlib.Core.List.{◌++◌}
 use mathlib.Core.Path.{◌≡◌, refl, ap, ◌∙◌}
-use Prim.Native.Nat.{◌-◌, ◌≤◌}
-use borrow.Author.Rules.{rules}
 use Rattle.run.proofs.wipe.Goals as goal
 
 pub loop-k-init : goal.loop-k-init

@@ -1,13 +1,9 @@
 -- `run::wipe` meets its contract: the places before k are zero, those from k on as they were.
-use Rattle.run.proofs.Front.{length_front, blank_more}
-use Rattle.lists.proofs.Tab.{length-blank}
 use Rattle.lists.specs.Tab.{blank}
-use lib.ListN.{length, drop}
-use native.Mathlib.Omega.{arith}
+use lib.ListN.{drop}
 use mathlib.Core.List.{◌++◌}
-use mathlib.Core.Path.{◌≡◌, refl, ap, ◌∙◌}
+use mathlib.Core.Path.{◌≡◌}
 use Prim.Native.Nat.{◌-◌, ◌≤◌}
-use borrow.Author.Rules.{rules}
 use Rattle.run.proofs.wipe.Given as goal
 
 abbrev pub invariant-loop-k : goal.invariant-loop-k

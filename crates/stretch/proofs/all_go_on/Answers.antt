@@ -1,11 +1,9 @@
 -- `stretch::all_go_on` meets its contract. The loop's invariant: the rows that the processors passed pick go on for as many ticks as are left.
-use Prim.Native.Nat.{ℕ, suc, ◌+◌, ◌-◌, ◌≤◌, ◌<◌}
+use Prim.Native.Nat.{ℕ, ◌+◌, ◌-◌, ◌≤◌, ◌<◌}
 use mathlib.Core.Path.{◌≡◌}
 use mathlib.Core.List.{List}
-use mathlib.Core.Logic.{⊎_elim}
 use native.Mathlib.Omega.{arith}
 use borrow.Author.Count.{below_more}
-use borrow.Author.Rules.{rules}
 use lib.ListN.{get_or}
 use Rattle.chain.specs.declared.Place.{Place}
 use Rattle.chain.specs.declared.Place.TheVariants.{Idle, Waiting, Running}
@@ -61,17 +59,17 @@ loop-q-preserved c =
     let l = c.loop-q in (
       omega arith,
       elim c.if-row-gt0.branch [
-        then-row-gt0 w ↦ omega (arith, w.ticks-is, w.goes_on-ticks.ensures.0, l.invariant.1)
-      | else-row-gt0 w ↦ omega (arith, w.ticks-is, l.invariant.1)
+        | then-row-gt0 w ↦ omega (arith, w.ticks-is, w.goes_on-ticks.ensures.0, l.invariant.1)
+        | else-row-gt0 w ↦ omega (arith, w.ticks-is, l.invariant.1)
       ],
       elim c.if-row-gt0.branch [
-        then-row-gt0 w ↦
-          let r = w.goes_on-ticks.result in
-          rw w.ticks-is
-          (goes_more a.jobs.now a.picked.now a.rank.now a.top.now l.q l.ticks r w.goes_on-ticks.ensures.0 l.invariant.2
-          (λ h. row_goes a.jobs.now a.picked.now a.rank.now a.top.now l.q r w.job_at-x.result w.job_at-x.ensures (w.goes_on-ticks.ensures.1 h)))
-      | else-row-gt0 w ↦
-          goes_more a.jobs.now a.picked.now a.rank.now a.top.now l.q l.ticks c.if-row-gt0.ticks (omega (arith, w.ticks-is)) l.invariant.2 (λ h i e. absurd (omega (arith, w.if-row-gt0.false)))
+        | then-row-gt0 w ↦
+            let r = w.goes_on-ticks.result in
+            rw w.ticks-is
+            (goes_more a.jobs.now a.picked.now a.rank.now a.top.now l.q l.ticks r w.goes_on-ticks.ensures.0 l.invariant.2
+            (λ h. row_goes a.jobs.now a.picked.now a.rank.now a.top.now l.q r w.job_at-x.result w.job_at-x.ensures (w.goes_on-ticks.ensures.1 h)))
+        | else-row-gt0 w ↦
+            goes_more a.jobs.now a.picked.now a.rank.now a.top.now l.q l.ticks c.if-row-gt0.ticks (omega (arith, w.ticks-is)) l.invariant.2 (λ h i e. absurd (omega (arith, w.if-row-gt0.false)))
       ],
     )
 

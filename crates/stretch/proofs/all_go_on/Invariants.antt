@@ -1,15 +1,8 @@
 -- `stretch::all_go_on` meets its contract. The loop's invariant: the rows that the processors passed pick go on for as many ticks as are left.
-use Prim.Native.Nat.{ℕ, suc, ◌+◌, ◌-◌, ◌≤◌, ◌<◌}
+use Prim.Native.Nat.{ℕ, suc, ◌-◌, ◌≤◌, ◌<◌}
 use mathlib.Core.Path.{◌≡◌}
 use mathlib.Core.List.{List}
-use mathlib.Core.Logic.{⊎_elim}
-use native.Mathlib.Omega.{arith}
-use borrow.Author.Count.{below_more}
-use borrow.Author.Rules.{rules}
 use lib.ListN.{get_or}
-use Rattle.chain.specs.declared.Place.{Place}
-use Rattle.chain.specs.declared.Place.TheVariants.{Idle, Waiting, Running}
-use Rattle.chain.specs.declared.Job.{Job}
 use Rattle.jobs.specs.Numbers.{job_in}
 use Rattle.stretch.specs.Push.{Goes}
 use Rattle.stretch.proofs.all_go_on.Given as goal

@@ -1,7 +1,6 @@
 -- `stretch::before_arrival` meets its contract.
 use Prim.Native.Nat.{ℕ, ◌+◌, ◌*◌, ◌≤◌, ◌<◌}
 use mathlib.Core.List.{List}
-use borrow.Author.Rules.{rules}
 use lib.ListN.{get_or}
 use Rattle.arrivals.specs.Arrival.{arrival_at, arrival_in, arrivals_of}
 use Rattle.arrivals.proofs.Flat.{arrival_at_lem}

@@ -1,9 +1,7 @@
 -- `stretch::goes_on` meets its contract.
 use Prim.Native.Nat.{ℕ}
 use mathlib.Core.Path.{◌≡◌, sym}
-use mathlib.Core.Logic.{⊎_elim}
 use native.Mathlib.Omega.{arith}
-use borrow.Author.Rules.{rules}
 use Rattle.chain.specs.declared.Place.{Place}
 use Rattle.chain.specs.declared.Place.TheVariants.{Running}
 use Rattle.chain.specs.declared.Job.{Job}
@@ -28,11 +26,13 @@ returns c =
     let r = c.smaller-2 in (
       omega (arith, r.ensures),
       λ h.
-          goes_at a.rank a.top r.result a.x (Running c.in-Running.part c.in-Running.left) a.x.place (sym c.in-Running.is)
-          (omega (arith, r.ensures), λ e z.
-          elim c.if-part-eq1.branch [
-            then-part-eq1+then-x-eq0+else-rank-top w ↦ omega (arith, w.if-rank-top.false)
-          | then-part-eq1+else-x-eq0 w ↦ absurd (w.if-x-eq0.false z)
-          | else-part-eq1 w ↦ absurd (w.if-part-eq1.false e)
-          ]),
+          goes_at a.rank a.top r.result a.x (Running c.in-Running.part c.in-Running.left) a.x.place (sym c.in-Running.is) (
+            omega (arith, r.ensures),
+            λ e z.
+                elim c.if-part-eq1.branch [
+                  | then-part-eq1+then-x-eq0+else-rank-top w ↦ omega (arith, w.if-rank-top.false)
+                  | then-part-eq1+else-x-eq0 w ↦ absurd (w.if-x-eq0.false z)
+                  | else-part-eq1 w ↦ absurd (w.if-part-eq1.false e)
+                ],
+          ),
     )

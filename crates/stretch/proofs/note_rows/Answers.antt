@@ -2,7 +2,6 @@
 use Prim.Native.Nat.{ℕ, suc, ◌+◌, ◌-◌, ◌≤◌, ◌<◌}
 use mathlib.Core.Path.{◌≡◌, sym, ◌∙◌, ap}
 use mathlib.Core.List.{List}
-use mathlib.Core.Logic.{⊎_elim}
 use native.Mathlib.Omega.{arith}
 use native.Mathlib.Numerals.{add-one}
 use borrow.Author.Rules.{rules}
@@ -48,44 +47,39 @@ loop-q-init c = search rules
 
 pub overflow_cast-row : goal.overflow_cast-row
 overflow_cast-row c =
-    let s = c in
-    omega (arith, picked-le s.args.picked.now (λ q i. Ready s.args.t s.args.k (job_in s.args.jobs.now i)) s.requires.5 (c.loop-q.q + 1) (omega arith))
+    omega (arith, picked-le c.args.picked.now (λ q i. Ready c.args.t c.args.k (job_in c.args.jobs.now i)) c.requires.5 (c.loop-q.q + 1) (omega arith))
 
 pub job_at-x-requires : goal.job_at-x-requires
 job_at-x-requires c =
-    let s = c in
     let q = c.loop-q.q + 1 in
-    ((s.requires.5 q (get_or s.args.picked.now q 0 - 1) (omega arith) (omega arith)).0, s.requires.3)
+    ((c.requires.5 q (get_or c.args.picked.now q 0 - 1) (omega arith) (omega arith)).0, c.requires.3)
 
 pub push-y-requires : goal.push-y-requires
 push-y-requires c =
-    let s = c in
     let q = c.loop-q.q + 1 in
-    push_fits (s.requires.5 q (get_or s.args.picked.now q 0 - 1) (omega arith) (omega arith)).1 c.job_at-x.ensures s.requires.1
+    push_fits (c.requires.5 q (get_or c.args.picked.now q 0 - 1) (omega arith) (omega arith)).1 c.job_at-x.ensures c.requires.1
 
 pub note-requires : goal.note-requires
 note-requires c =
-    let s = c in
     let l = c.loop-q in
     let q = l.q + 1 in
-    let p = s.requires.5 q (get_or s.args.picked.now q 0 - 1) (omega arith) (omega arith) in
-    (p.0, s.requires.1, s.requires.2, push_good p.1 c.job_at-x.ensures c.push-y.ensures, l.invariant.2)
+    let p = c.requires.5 q (get_or c.args.picked.now q 0 - 1) (omega arith) (omega arith) in
+    (p.0, c.requires.1, c.requires.2, push_good p.1 c.job_at-x.ensures c.push-y.ensures, l.invariant.2)
 
 pub loop-q-preserved : goal.loop-q-preserved
 loop-q-preserved c =
-    let s = c in
-    let a = s.args in
+    let a = c.args in
     let l = c.loop-q in
     let f : ℕ → Job = λ i. push a.t a.k (job_in a.jobs.now i) in
-    let few = picked-le a.picked.now (λ q i. Ready a.t a.k (job_in a.jobs.now i)) s.requires.5 (l.q + 1) (omega arith) in (
+    let few = picked-le a.picked.now (λ q i. Ready a.t a.k (job_in a.jobs.now i)) c.requires.5 (l.q + 1) (omega arith) in (
       omega arith,
       elim c.if-row-gt0.branch [
-        then-row-gt0 w ↦ w.worst-is ∙ noted_more a.bounds.now (a.t + a.k) f a.picked.now a.worst.now l.q l.worst l.invariant.1 w.push-y.result _ w.if-row-gt0.true few (w.push-y.ensures ∙ ap (λ (x : Job). push a.t a.k x) w.job_at-x.ensures) w.note.ensures
-      | else-row-gt0 w ↦ w.worst-is ∙ noted_none a.bounds.now (a.t + a.k) f a.picked.now a.worst.now l.q l.worst l.invariant.1 w.if-row-gt0.false
+        | then-row-gt0 w ↦ w.worst-is ∙ noted_more a.bounds.now (a.t + a.k) f a.picked.now a.worst.now l.q l.worst l.invariant.1 w.push-y.result _ w.if-row-gt0.true few (w.push-y.ensures ∙ ap (λ (x : Job). push a.t a.k x) w.job_at-x.ensures) w.note.ensures
+        | else-row-gt0 w ↦ w.worst-is ∙ noted_none a.bounds.now (a.t + a.k) f a.picked.now a.worst.now l.q l.worst l.invariant.1 w.if-row-gt0.false
       ],
       elim c.if-row-gt0.branch [
-        then-row-gt0 w ↦ ap length w.worst-is ∙ w.note.auto.worst ∙ l.invariant.2
-      | else-row-gt0 w ↦ ap length w.worst-is ∙ l.invariant.2
+        | then-row-gt0 w ↦ ap length w.worst-is ∙ w.note.auto.worst ∙ l.invariant.2
+        | else-row-gt0 w ↦ ap length w.worst-is ∙ l.invariant.2
       ],
     )
 

@@ -1,13 +1,8 @@
 -- `stretch::run_rows` meets its contract. The loop's invariant: the rows that the first q processors pick have run.
 use Prim.Native.Nat.{◌-◌, ◌≤◌}
-use mathlib.Core.Path.{◌≡◌, sym, ◌∙◌, ap}
-use mathlib.Core.Logic.{⊎_elim}
-use native.Mathlib.Omega.{arith}
-use borrow.Author.Rules.{rules}
-use lib.ListN.{length, get_or}
-use Rattle.jobs.specs.Numbers.{jobs_in}
-use Rattle.stretch.specs.Push.{Picked}
-use Rattle.stretch.proofs.Running.{picked-le, Ran, ran_start, ran_none, ready_next, ran_more, ran_jobs, ran_due}
+use mathlib.Core.Path.{◌≡◌}
+use lib.ListN.{length}
+use Rattle.stretch.proofs.Running.{Ran}
 use Rattle.stretch.proofs.run_rows.Given as goal
 
 abbrev pub invariant-loop-q : goal.invariant-loop-q
