@@ -57,7 +57,7 @@ module _ (bounds : List ℕ) (xs : List Arrival) (t : ℕ) (start : List ℕ) wh
   behind k = late bounds k t (job_at (jobs_in start) k) (brings xs k t)
 
   -- the first i of n rows have their releases, none of them too early, and the arrivals have come to row i
-  pub record Went-on (n i : ℕ) (flat dues : List ℕ) (at : ℕ) : Type 0 where
+  pub record WentOn (n i : ℕ) (flat dues : List ℕ) (at : ℕ) : Type 0 where
     pub whole : length flat ≡ 576
     pub column : length dues ≡ 64
     pub jobs : jobs_in flat ≡ tab i after ++ drop i (jobs_in start)
@@ -67,11 +67,11 @@ module _ (bounds : List ℕ) (xs : List Arrival) (t : ℕ) (start : List ℕ) wh
 
 module _ {n next t : ℕ} {bounds start dues₀ : List ℕ} {xs : List Arrival} (held : Held n bounds t start dues₀) (coming : Coming n xs next t) where
   -- before the first row nothing has changed
-  pub started : Went-on bounds xs t start n 0 start dues₀ next
+  pub started : WentOn bounds xs t start n 0 start dues₀ next
   unfolding tab
   started = record { whole = held.whole; column = held.column; jobs = refl; dues_are = held.dues_are; seek = coming.seek; on_time = λ k h. absurd (omega arith) }
 
-  module _ {i at : ℕ} {flat dues : List ℕ} (w : Went-on bounds xs t start n i flat dues at) (h : i < n) where
+  module _ {i at : ℕ} {flat dues : List ℕ} (w : WentOn bounds xs t start n i flat dues at) (h : i < n) where
     -- row i's job is as it was before the tick
     waits : job_in flat i ≡ job_at (jobs_in start) i
     waits = sym (jobs_at_lem flat i (omega (arith, held.few))) ∙ get_or-next (after bounds xs t start) (jobs_in start) i (jobs_in flat) w.jobs no_job
@@ -99,7 +99,7 @@ module _ {n next t : ℕ} {bounds start dues₀ : List ℕ} {xs : List Arrival} 
       is_late_lem l = sym (first_is n (behind bounds xs t start) i h w.on_time (sym (l ∙ late_here)))
 
       -- or there is one row more
-      pub goes_on : (flat₁ dues₁ : List ℕ) → length flat₁ ≡ 576 → jobs_in flat₁ ≡ set (jobs_in flat) i (released bounds i t (job_in flat i) gets) → dues₁ ≡ set dues i (due_of bounds i (released bounds i t (job_in flat i) gets)) → false ≡ late bounds i t (job_in flat i) gets → Went-on bounds xs t start n (i + 1) flat₁ dues₁ (at + cond came 1 0)
+      pub goes_on : (flat₁ dues₁ : List ℕ) → length flat₁ ≡ 576 → jobs_in flat₁ ≡ set (jobs_in flat) i (released bounds i t (job_in flat i) gets) → dues₁ ≡ set dues i (due_of bounds i (released bounds i t (job_in flat i) gets)) → false ≡ late bounds i t (job_in flat i) gets → WentOn bounds xs t start n (i + 1) flat₁ dues₁ (at + cond came 1 0)
       goes_on flat₁ dues₁ size e f l =
           let x : Job = released bounds i t (job_in flat i) gets in
           record {
@@ -112,7 +112,7 @@ module _ {n next t : ℕ} {bounds start dues₀ : List ℕ} {xs : List Arrival} 
           }
 
     -- which stays as it is, where nothing comes and its next release is not due yet
-    pub stays : false ≡ (ltb at (length xs) && is_of xs i t at) → t < get_or dues i 0 → Went-on bounds xs t start n (i + 1) flat dues at
+    pub stays : false ≡ (ltb at (length xs) && is_of xs i t at) → t < get_or dues i 0 → WentOn bounds xs t start n (i + 1) flat dues at
     stays here l =
         let x = jobs_at_lem flat i (omega (arith, held.few)) in
         let d : t < due_of bounds i (job_in flat i) = rw (w.dues_are i h, x) at l in
@@ -124,7 +124,7 @@ module _ {n next t : ℕ} {bounds start dues₀ : List ℕ} {xs : List Arrival} 
         (sym (late_before bounds i t (job_in flat i) d)))
 
   -- where none is due and no arrival comes, all stay as they are
-  pub all_stay : ((i : ℕ) → i < n → t < get_or dues₀ i 0) → (next < length xs → t < (arrival_at xs next).tick) → (i : ℕ) → i ≤ n → Went-on bounds xs t start n i start dues₀ next
+  pub all_stay : ((i : ℕ) → i < n → t < get_or dues₀ i 0) → (next < length xs → t < (arrival_at xs next).tick) → (i : ℕ) → i ≤ n → WentOn bounds xs t start n i start dues₀ next
   unfolding is_of
   all_stay due ahead zero h = started
   all_stay due ahead (suc i) h = rw (add-one i) at (stays (all_stay due ahead i (omega arith)) (omega arith) none_comes (due i (omega arith)))
@@ -136,7 +136,7 @@ module _ {n next t : ℕ} {bounds start dues₀ : List ℕ} {xs : List Arrival} 
           (λ l. rw (le-ltb next (length xs) (omega arith)))
 
   -- all rows have their releases
-  pub all_in : {flat dues : List ℕ} {at : ℕ} → Went-on bounds xs t start n n flat dues at →
+  pub all_in : {flat dues : List ℕ} {at : ℕ} → WentOn bounds xs t start n n flat dues at →
       (n ≡ late_row n bounds (brings xs) t (jobs_in start)) × (n ≡ n → (jobs_in flat ≡ releases n bounds (brings xs) t (jobs_in start)) × Dues n bounds (jobs_in flat) dues × Coming n xs at (suc t))
   unfolding late_row releases filled
   all_in {at = at} w = (
