@@ -103,11 +103,11 @@ jobs_of x = x.ended + there x.place
 -- a job that goes to a place is there, or it has ended
 jobs_moved : (x : Job) (p : Place) → jobs_of (moved x p) ≡ x.ended + 1
 unfolding moved
-jobs_moved x p = go (is_idle p)
+jobs_moved x p = go (is_idle p) refl
   where
-    go : (b : Bool) → x.ended + cond b 1 0 + cond (not b) 1 0 ≡ x.ended + 1
-    go true = omega arith
-    go false = omega arith
+    go : (b : Bool) → is_idle p ≡ b → jobs_of (moved x p) ≡ x.ended + 1
+    go true e = rw e (omega arith)
+    go false e = rw e (omega arith)
 
 pub jobs_counted : Counted jobs_of (λ ls. 1)
 unfolding admit is_idle

@@ -503,7 +503,7 @@ module _ (bounds : List ℕ) (i : ℕ) where
       unfolding moved left
       unit_last t x j l f s h =
           next_cases bounds i (λ p. Ran t x j l (after p)) x.arrived j
-          (λ k. ends (Waiting (x.arrived + off bounds i (suc j)) (suc j)) (λ e. refl) (waits k)) (λ k. ends Idle (λ e. refl) (rests k))
+          (λ k. ends (Waiting _ (suc j)) (λ e. refl) (waits _ (omega arith) k)) (λ k. ends Idle (λ e. refl) (rests k))
         where
           after : Place → Job
           after p = moved (running t x p) p
@@ -514,8 +514,8 @@ module _ (bounds : List ℕ) (i : ℕ) where
           past : (e : ℕ) → e ≤ j → x.arrived + off bounds i e < suc t
           past e k = omega (arith, off-le bounds i e j k)
 
-          waits : j < 2 → Fine (suc t) (after (Waiting (x.arrived + off bounds i (suc j)) (suc j))) (Waiting (x.arrived + off bounds i (suc j)) (suc j))
-          waits k = record { live = live _; unbegun = refl; until = refl; ahead = s; inside = omega arith; before = λ e he. past e (omega arith) }
+          waits : (u : ℕ) → u ≡ x.arrived + off bounds i (suc j) → j < 2 → Fine (suc t) (after (Waiting u (suc j))) (Waiting u (suc j))
+          waits u q k = record { live = live _; unbegun = refl; until = q; ahead = omega (arith, q, s); inside = omega arith; before = λ e he. past e (omega arith) }
 
           rests : 2 ≤ j → Fine (suc t) (after Idle) Idle
           rests k = to_idle (suc t) (after Idle) (live Idle) refl (λ e he. past e (omega arith))
