@@ -1,11 +1,13 @@
 -- What each number says of an arrival, as facts, and of a list which arrival is refused.
 use Prim.Native.Nat.{ℕ, suc, ◌+◌, ◌-◌, ◌≤◌, ◌<◌}
+use Rattle.std.specs.Prelude.{Ok, Err}
 use mathlib.Core.Path.{◌≡◌, refl, sym, ◌∙◌}
 use mathlib.Core.List.{List}
 use mathlib.Core.Logic.{dite}
 use mathlib.Core.Bool.{Bool, true, false, cond, ◌||◌}
 use native.Mathlib.Decide.{dec_lt}
 use native.Mathlib.Omega.{arith}
+use native.Mathlib.Numerals.{add-one}
 use borrow.Author.Tests.{lt-ltb, le-ltb, ltb-false, lt-leb, leb-false}
 use lib.ListN.{length, get_or}
 use lib.Dec.{ltb, leb}
@@ -14,7 +16,7 @@ use Rattle.lists.proofs.First.{first_bad_lem, none_bad}
 use Rattle.table.specs.Row.{outside}
 use Rattle.table.proofs.Laws.{inside}
 use Rattle.arrivals.specs.Arrival.{Arrival, arrival_at}
-use Rattle.arrivals.specs.Check.{disordered, last_of, less_than_t_ago, number_at, first_bad, heard_of}
+use Rattle.arrivals.specs.Check.{Fault, NoRow, Disordered, TooLong, TooSoon, disordered, last_of, less_than_t_ago, fault_number, fault_with, number_at, first_bad, heard_of}
 
 -- 15 is not given
 abbrev pub RowFine : ℕ → Arrival → Type 0
@@ -137,17 +139,33 @@ module _ (n : ℕ) (periods c1s secs c2s : List ℕ) (xs : List Arrival) (k : �
       go false false false true = (omega arith, λ l. omega arith)
       go false false false false = (omega arith, λ l. omega arith)
 
+-- a fault has a number above 0
+pub fault_some : (f : Fault) → 0 < fault_number f
+unfolding fault_number
+fault_some NoRow = omega arith
+fault_some Disordered = omega arith
+fault_some TooLong = omega arith
+fault_some TooSoon = omega arith
+
+-- and is the one with that number
+pub fault_back : (f : Fault) → fault_with (fault_number f) ≡ f
+unfolding fault_with fault_number
+fault_back NoRow = refl
+fault_back Disordered = refl
+fault_back TooLong = refl
+fault_back TooSoon = refl
+
 module _ (n : ℕ) (periods c1s secs c2s : List ℕ) (xs : List Arrival) where
   -- a bad arrival behind good ones is the refusal
-  pub heard_bad : (k : ℕ) → k < length xs → ((j : ℕ) → j < k → number_at n periods c1s secs c2s xs j ≡ 0) → 0 < number_at n periods c1s secs c2s xs k →
-      heard_of n periods c1s secs c2s xs ≡ record { number = number_at n periods c1s secs c2s xs k; position = suc k }
+  pub heard_bad : (k : ℕ) (f : Fault) → k < length xs → ((j : ℕ) → j < k → number_at n periods c1s secs c2s xs j ≡ 0) → number_at n periods c1s secs c2s xs k ≡ fault_number f →
+      heard_of n periods c1s secs c2s xs ≡ Err (record { fault = f; position = k + 1 })
   unfolding heard_of first_bad
-  heard_bad k l good bad =
-      let e : first_bad n periods c1s secs c2s xs ≡ k = first_bad_lem (length xs) (number_at n periods c1s secs c2s xs) k l good bad in
-      rw (e, lt-ltb k (length xs) l)
+  heard_bad k f l good bad =
+      let e : first_bad n periods c1s secs c2s xs ≡ k = first_bad_lem (length xs) (number_at n periods c1s secs c2s xs) k l good (omega (arith, fault_some f)) in
+      rw (e, lt-ltb k (length xs) l, bad, fault_back f, add-one)
 
   -- good arrivals have none
-  pub heard_none : ((k : ℕ) → k < length xs → number_at n periods c1s secs c2s xs k ≡ 0) → heard_of n periods c1s secs c2s xs ≡ record { number = 0; position = 0 }
+  pub heard_none : ((k : ℕ) → k < length xs → number_at n periods c1s secs c2s xs k ≡ 0) → heard_of n periods c1s secs c2s xs ≡ Ok tt
   unfolding heard_of first_bad
   heard_none good =
       let e : first_bad n periods c1s secs c2s xs ≡ length xs = none_bad (length xs) (number_at n periods c1s secs c2s xs) good in

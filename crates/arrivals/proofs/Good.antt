@@ -1,6 +1,7 @@
 -- A list of arrivals without refusal is good: in order, within the table's limits, and each row's a period apart.
 use Prim.Native.Nat.{ℕ, zero, suc, ◌+◌, ◌-◌, ◌*◌, ◌≤◌, ◌<◌}
-use mathlib.Core.Path.{◌≡◌, refl}
+use Rattle.std.specs.Prelude.{Result, Ok, Err, ⊤}
+use mathlib.Core.Path.{◌≡◌, refl, sym}
 use mathlib.Core.List.{List}
 use mathlib.Core.Logic.{◌⊎◌, inl, inr, ⊎_elim, dite}
 use mathlib.Core.Bool.{Bool, true, false, false≢true, cond, ◌&&◌, ◌||◌}
@@ -11,9 +12,8 @@ use lib.ListN.{length, get_or}
 use lib.Dec.{ltb, eqb}
 use Rattle.lists.proofs.First.{first_yes, good_before}
 use Rattle.arrivals.specs.Arrival.{Arrival, arrival_at}
-use Rattle.arrivals.specs.Check.{disordered, last_of, number_at, first_bad, heard_of}
+use Rattle.arrivals.specs.Check.{NoRow, Disordered, TooLong, TooSoon, Unheard, disordered, last_of, fault_number, fault_with, number_at, first_bad, heard_of, number_heard}
 use Rattle.arrivals.specs.Seek.{key_of, GoodArrivals}
-use Rattle.arrivals.specs.declared.Heard.{Heard}
 use Rattle.arrivals.proofs.Fine.{Fine, fine, number_range}
 
 -- what rises from each place to the next rises from any place to a later one
@@ -35,6 +35,17 @@ behind_key a b r s h u v = go (ltb a b) (eqb a b) refl refl h
     go false true e f h = omega (arith, eqb-true a b f, ltb-true r s h)
     go false false e f h = absurd (false≢true h)
 
+-- the fault with a number has it
+pub fault_numbered : (x : ℕ) → 15 ≤ x → x ≤ 18 → fault_number (fault_with x) ≡ x
+unfolding fault_number fault_with
+fault_numbered x h l = go (eqb x 15) (eqb x 16) (eqb x 17) refl refl refl
+  where
+    go : (a b c : Bool) → eqb x 15 ≡ a → eqb x 16 ≡ b → eqb x 17 ≡ c → fault_number (cond a NoRow (cond b Disordered (cond c TooLong TooSoon))) ≡ x
+    go true b c p q r = sym (eqb-true x 15 p)
+    go false true c p q r = sym (eqb-true x 16 q)
+    go false false true p q r = sym (eqb-true x 17 r)
+    go false false false p q r = omega (arith, eqb-false x 15 p, eqb-false x 16 q, eqb-false x 17 r)
+
 module _ (n : ℕ) (periods c1s secs c2s : List ℕ) (xs : List Arrival) where
   -- the number of the arrival at place k, and the place of the first bad one
   abbrev number : ℕ → ℕ
@@ -44,27 +55,31 @@ module _ (n : ℕ) (periods c1s secs c2s : List ℕ) (xs : List Arrival) where
   bad = first_bad n periods c1s secs c2s xs
 
   -- the answer, by whether there is one
-  abbrev picked : Bool → Heard
-  picked b = cond b (record { number = number bad; position = suc bad }) (record { number = 0; position = 0 })
+  abbrev picked : Bool → Result ⊤ Unheard
+  picked b = cond b (Err (record { fault = fault_with (number bad); position = suc bad })) (Ok tt)
 
   -- the number is the first bad arrival's, or 0 if there is none
-  heard_cases : ((bad < length xs) × ((heard_of n periods c1s secs c2s xs).number ≡ number bad)) ⊎ ((length xs ≤ bad) × ((heard_of n periods c1s secs c2s xs).number ≡ 0))
-  unfolding heard_of
+  heard_cases : ((bad < length xs) × (number_heard (heard_of n periods c1s secs c2s xs) ≡ number bad)) ⊎ ((length xs ≤ bad) × (number_heard (heard_of n periods c1s secs c2s xs) ≡ 0))
+  unfolding heard_of first_bad
   heard_cases = go (ltb bad (length xs)) refl
     where
-      go : (b : Bool) → ltb bad (length xs) ≡ b → ((bad < length xs) × ((picked b).number ≡ number bad)) ⊎ ((length xs ≤ bad) × ((picked b).number ≡ 0))
-      go true e = inl (ltb-true _ _ e, refl)
+      go : (b : Bool) → ltb bad (length xs) ≡ b → ((bad < length xs) × (number_heard (picked b) ≡ number bad)) ⊎ ((length xs ≤ bad) × (number_heard (picked b) ≡ 0))
+      go true e =
+          let l = ltb-true _ _ e in
+          let r = number_range n periods c1s secs c2s xs bad (arrival_at xs bad) refl in
+          let y : 1 ≤ number bad = ltb-true 0 (number bad) (first_yes (length xs) (λ k. ltb 0 (number k)) l) in
+          inl (l, fault_numbered (number bad) (r.1 y) r.0)
       go false e = inr (ltb-false _ _ e, refl)
 
   -- a refusal is one of 15 to 18
-  pub number_le : (heard_of n periods c1s secs c2s xs).number ≤ 18
+  pub number_le : number_heard (heard_of n periods c1s secs c2s xs) ≤ 18
   number_le = ⊎_elim (λ w. omega (arith, number_range n periods c1s secs c2s xs bad (arrival_at xs bad) refl)) (λ w. omega arith) heard_cases
 
   -- and at least 15
-  pub number_ge : 1 ≤ (heard_of n periods c1s secs c2s xs).number → 15 ≤ (heard_of n periods c1s secs c2s xs).number
+  pub number_ge : 1 ≤ number_heard (heard_of n periods c1s secs c2s xs) → 15 ≤ number_heard (heard_of n periods c1s secs c2s xs)
   number_ge h = ⊎_elim (λ w. rw w.1 ((number_range n periods c1s secs c2s xs bad (arrival_at xs bad) refl).1 (omega arith))) (λ w. absurd (omega arith)) heard_cases
 
-  module _ (rows : n ≤ 64) (none : (heard_of n periods c1s secs c2s xs).number ≡ 0) where
+  module _ (rows : n ≤ 64) (none : number_heard (heard_of n periods c1s secs c2s xs) ≡ 0) where
     -- where there is none, each arrival is fine
     all_fine : (k : ℕ) → k < length xs → Fine n periods c1s secs c2s xs k (arrival_at xs k)
     unfolding first_bad

@@ -1,5 +1,6 @@
 pub mod Apart
-pub mod Flat
+pub mod Numbers
+pub mod Order
 pub mod Fine
 pub mod Good
 pub mod Seeking

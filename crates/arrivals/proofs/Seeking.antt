@@ -4,7 +4,7 @@ use mathlib.Core.Path.{◌≡◌, refl}
 use mathlib.Core.List.{List}
 use mathlib.Core.Logic.{dite}
 use mathlib.Core.Bool.{Bool, true, false, true≢false, cond, ◌&&◌}
-use mathlib.Core.Option.{none, some}
+use Rattle.std.specs.Prelude.{Some, None}
 use native.Mathlib.Omega.{arith}
 use native.Mathlib.Decide.{ℕ_discrete, dec_lt}
 use borrow.Author.Count.{below_more}
@@ -34,11 +34,11 @@ pub record Place (xs : List Arrival) (i t : ℕ) (ls : List ℕ) : Type 0 where
   pub lens : ls ≡ lens_of (arrival_at xs place)
 
 -- what is brought has its place in the list
-pub brings_at : (xs : List Arrival) (i t : ℕ) (ls : List ℕ) → brings xs i t ≡ some ls → Place xs i t ls
+pub brings_at : (xs : List Arrival) (i t : ℕ) (ls : List ℕ) → brings xs i t ≡ Some ls → Place xs i t ls
 unfolding brings
 brings_at xs i t ls h = go (ltb (first (length xs) (is_of xs i t)) (length xs)) refl h
   where
-    go : (b : Bool) → ltb (first (length xs) (is_of xs i t)) (length xs) ≡ b → cond b (some (lens_of (arrival_at xs (first (length xs) (is_of xs i t))))) none ≡ some ls → Place xs i t ls
+    go : (b : Bool) → ltb (first (length xs) (is_of xs i t)) (length xs) ≡ b → cond b (Some (lens_of (arrival_at xs (first (length xs) (is_of xs i t))))) None ≡ Some ls → Place xs i t ls
     go true e h =
         let l = ltb-true _ _ e in
         let w = is_of_lem xs i t _ (first_yes (length xs) (is_of xs i t) l) in
@@ -57,7 +57,7 @@ pub record Brought (n : ℕ) (c1s secs c2s : List ℕ) (i t : ℕ) (ls : List �
 
 module _ (n : ℕ) (periods c1s secs c2s : List ℕ) (xs : List Arrival) (good : GoodArrivals n periods c1s secs c2s xs) where
   -- what a good list brings keeps to the table
-  pub brings_fits : (i t : ℕ) (ls : List ℕ) → brings xs i t ≡ some ls → Brought n c1s secs c2s i t ls
+  pub brings_fits : (i t : ℕ) (ls : List ℕ) → brings xs i t ≡ Some ls → Brought n c1s secs c2s i t ls
   brings_fits i t ls h =
       let p = brings_at xs i t ls h in
       let l = good.lengths p.place i p.below p.row in
@@ -76,7 +76,7 @@ module _ (n : ℕ) (periods c1s secs c2s : List ℕ) (xs : List Arrival) (good :
   keys_rise = rises (λ k. key_of (arrival_at xs k)) (length xs) good.sorted
 
   -- and a row's arrivals in it are a period apart
-  pub brings_apart : (i a b : ℕ) (ls ks : List ℕ) → brings xs i a ≡ some ls → brings xs i b ≡ some ks → a < b → a + get_or periods i 0 ≤ b
+  pub brings_apart : (i a b : ℕ) (ls ks : List ℕ) → brings xs i a ≡ Some ls → brings xs i b ≡ Some ks → a < b → a + get_or periods i 0 ≤ b
   brings_apart i a b ls ks p q l =
       let x = brings_at xs i a ls p in
       let y = brings_at xs i b ks q in
@@ -147,11 +147,11 @@ module _ (n : ℕ) (periods c1s secs c2s : List ℕ) (xs : List Arrival) (good :
           (λ q. elsewhere k l q e)
 
       -- so what comes to the row is what stands at the place, if it is the row's
-      pub seek_comes : cond (ltb next (length xs) && is_of xs i t next) (some (lens_of (arrival_at xs next))) none ≡ brings xs i t
+      pub seek_comes : cond (ltb next (length xs) && is_of xs i t next) (Some (lens_of (arrival_at xs next))) None ≡ brings xs i t
       unfolding brings
       seek_comes = go (ltb next (length xs) && is_of xs i t next) refl
         where
-          go : (b : Bool) → (ltb next (length xs) && is_of xs i t next) ≡ b → cond b (some (lens_of (arrival_at xs next))) none ≡ brings xs i t
+          go : (b : Bool) → (ltb next (length xs) && is_of xs i t next) ≡ b → cond b (Some (lens_of (arrival_at xs next))) None ≡ brings xs i t
           go true e =
               let w = both (ltb next (length xs)) (is_of xs i t next) e in
               let l = ltb-true next (length xs) w.0 in

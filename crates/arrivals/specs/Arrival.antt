@@ -1,10 +1,10 @@
 -- "arrivals, lent as a run of records (tick, row, three lengths)"
-use Rattle.std.specs.Prelude.{ℕ, suc, ◌+◌, ◌*◌, Bool, cond, ◌&&◌, List, [], ◌∷◌, get_or, length, ltb, eqb}
-use Rattle.std.proofs.Math.Option.{Option, none, some}
+use Rattle.std.specs.Prelude.{ℕ, suc, ◌+◌, ◌*◌, Bool, cond, ◌&&◌, List, [], ◌∷◌, get_or, length, ltb, eqb, Option, Some, None}
 use Rattle.std.proofs.lemmas.List.Edits.{sets}
 use Rattle.lists.specs.Tab.{tab, joined}
 use Rattle.lists.specs.First.{first}
 pub use Rattle.arrivals.specs.declared.Arrival.{Arrival}
+pub use Rattle.arrivals.specs.declared.Flat.{Flat}
 
 -- what is read past the end of a list
 abbrev pub no_arrival : Arrival
@@ -26,8 +26,8 @@ is_of xs i t k = eqb (arrival_at xs k).tick t && eqb (arrival_at xs k).row (suc 
 unfoldable pub brings : List Arrival → ℕ → ℕ → Option (List ℕ)
 brings xs i t =
     cond (ltb (first (length xs) (is_of xs i t)) (length xs))
-    (some (lens_of (arrival_at xs (first (length xs) (is_of xs i t)))))
-    none
+    (Some (lens_of (arrival_at xs (first (length xs) (is_of xs i t)))))
+    None
 
 -- the same arrivals as numbers side by side, five for each
 abbrev pub five : Arrival → List ℕ
@@ -47,6 +47,10 @@ arrival_in flat k =
 -- the list of arrivals that they stand for
 unfoldable pub arrivals_of : List ℕ → ℕ → List Arrival
 arrivals_of flat count = tab count (arrival_in flat)
+
+-- the arrivals that are lent as numbers
+abbrev pub listed : Flat → List Arrival
+listed xs = arrivals_of xs.numbers xs.count
 
 -- the first `count` arrivals of a list, written over the front of an array
 unfoldable pub flat_of : List Arrival → ℕ → List ℕ → List ℕ

@@ -1,9 +1,11 @@
 -- Refusals 15 to 18: the first bad arrival, and in it the lowest number.
-use Rattle.std.specs.Prelude.{ℕ, zero, suc, ◌+◌, ◌-◌, Bool, false, cond, not, ◌&&◌, ◌||◌, List, get_or, length, ltb, leb, eqb}
+use Rattle.std.specs.Prelude.{ℕ, zero, suc, ◌+◌, ◌-◌, Bool, false, cond, not, ◌&&◌, ◌||◌, List, get_or, length, ltb, leb, eqb, Result, Ok, Err, ⊤}
 use Rattle.lists.specs.First.{first}
 use Rattle.table.specs.Row.{outside}
 use Rattle.arrivals.specs.Arrival.{Arrival, arrival_at}
-pub use Rattle.arrivals.specs.declared.Heard.{Heard}
+pub use Rattle.arrivals.specs.declared.Fault.{Fault}
+pub use Rattle.arrivals.specs.declared.Fault.TheVariants.{NoRow, Disordered, TooLong, TooSoon}
+pub use Rattle.arrivals.specs.declared.Unheard.{Unheard}
 
 -- an arrival stands behind another: a later tick, or the same tick and a larger row
 abbrev pub behind : Arrival → Arrival → Bool
@@ -22,6 +24,26 @@ last_of xs r (suc k) = cond (eqb (arrival_at xs k).row r) (suc (arrival_at xs k)
 -- "less than T ago", where `last` is such a mark
 abbrev pub less_than_t_ago : ℕ → ℕ → ℕ → Bool
 less_than_t_ago tick last period = ltb 0 last && ltb (suc tick) (last + period)
+
+-- "Numbers for no", 15 to 18
+unfoldable pub fault_number : Fault → ℕ
+fault_number NoRow = 15
+fault_number Disordered = 16
+fault_number TooLong = 17
+fault_number TooSoon = 18
+
+-- the number of an answer; 0 is no refusal
+abbrev pub number_by : Result ⊤ Fault → ℕ
+number_by (Ok x) = 0
+number_by (Err f) = fault_number f
+
+-- the fault with a number of 15 to 18
+unfoldable pub fault_with : ℕ → Fault
+fault_with number =
+    cond (eqb number 15) NoRow
+    (cond (eqb number 16) Disordered
+    (cond (eqb number 17) TooLong
+    TooSoon))
 
 module _ (n : ℕ) (periods c1s secs c2s : List ℕ) (xs : List Arrival) where
   -- 15: "row not in 1 to n"
@@ -52,8 +74,17 @@ module _ (n : ℕ) (periods c1s secs c2s : List ℕ) (xs : List Arrival) where
   first_bad = first (length xs) (λ k. ltb 0 (number_at k))
 
   -- "Positions count from 1."
-  unfoldable pub heard_of : Heard
+  unfoldable pub heard_of : Result ⊤ Unheard
   heard_of =
       cond (ltb first_bad (length xs))
-      (record { number = number_at first_bad; position = suc first_bad })
-      (record { number = 0; position = 0 })
+      (Err (record { fault = fault_with (number_at first_bad); position = suc first_bad }))
+      (Ok tt)
+
+-- the number of what is heard, and the position that it names; 0 if there is no refusal
+abbrev pub number_heard : Result ⊤ Unheard → ℕ
+number_heard (Ok x) = 0
+number_heard (Err u) = fault_number u.fault
+
+abbrev pub position_heard : Result ⊤ Unheard → ℕ
+position_heard (Ok x) = 0
+position_heard (Err u) = u.position

@@ -1,10 +1,12 @@
 // Arrivals: their records, refusals 15 to 18, and which of them comes next.
 #![tactic(auto)]
 
-ghost use Rattle.std.specs.Prelude.{◌≡◌, ◌&&◌, ◌||◌, ℕ, suc, ◌+◌, ◌-◌, ◌*◌, ◌<◌, ◌≤◌, min, length, get_or, ltb};
+ghost use Rattle.std.specs.Prelude.{◌≡◌, ◌&&◌, ℕ, suc, ◌*◌, ◌<◌, ◌≤◌, min, cond, length, get_or, ltb, Some, None};
 ghost use Rattle.std.proofs.lemmas.List.Edits.{sets};
-ghost use Rattle.arrivals.specs.Arrival.{arrival_at as arrival_at_lem, lens_of, is_of, five, arrivals_of, flat_of};
-ghost use Rattle.arrivals.specs.Check.{disordered as disordered_lem, last_of, number_at as number_at_lem, heard_of};
+ghost use Rattle.arrivals.specs.Arrival.{arrival_at, lens_of, is_of, five, listed, flat_of};
+ghost use Rattle.arrivals.specs.Check.{disordered as disordered_lem, last_of, fault_number, number_by, number_at, heard_of};
+
+use table::Table;
 
 // An arrival: its tick, its row, counted from 1, and the actual lengths of the three stages.
 #[repr(C)]
@@ -17,16 +19,48 @@ pub struct Arrival {
     pub len3: u32,
 }
 
-// The refusal of a list of arrivals, 0 if there is none, and the position that it names.
-#[derive(Clone, Copy)]
-pub struct Heard {
-    pub number: u32,
+// The numbers of the first 4,096 arrivals, five for each, and how many arrivals there are.
+// Numbers, not records: the records are taken apart once, and all else reads numbers (a rule of the project, DECISIONS).
+#[derive(Drop)]
+pub struct Flat {
+    pub numbers: [u32; 20480],
+    pub count: usize,
+}
+
+// Why an arrival is refused: the paper's 15 to 18.
+#[derive(Clone, Copy, Debug, PartialEq, Eq)]
+pub enum Fault {
+    NoRow,
+    Disordered,
+    TooLong,
+    TooSoon,
+}
+
+impl Fault {
+    // The paper's number.
+    #[tactic(auto, unfolding(crate::specs::Check::fault_number))]
+    pub fn number(self) -> u32
+        ensures { result ≡ fault_number self }
+    {
+        match self {
+            Fault::NoRow => 15,
+            Fault::Disordered => 16,
+            Fault::TooLong => 17,
+            Fault::TooSoon => 18,
+        }
+    }
+}
+
+// The refusal of a list of arrivals: the first bad one's fault, and its position, counted from 1.
+#[derive(Clone, Copy, Debug, PartialEq, Eq)]
+pub struct Unheard {
+    pub fault: Fault,
     pub position: u32,
 }
 
 // Writes an arrival's numbers at its place among those of 4,096.
-fn put(a: Arrival, k: usize, flat: &mut [u32])
-    requires { (k < 4096) × (length flat.old ≡ 20480) }
+fn put(a: Arrival, k: usize, flat: &mut [u32; 20480])
+    requires { k < 4096 }
     ensures { flat.new ≡ sets flat.old (5 * k) (five a) }
 {
     let at = 5 * k;
@@ -37,140 +71,104 @@ fn put(a: Arrival, k: usize, flat: &mut [u32])
     flat[at + 4] = a.len3;
 }
 
-// The arrival at place k of a lent run of records.
-fn arrival_at(list: &[Arrival], k: usize) -> Arrival
-    requires { k < length list.now }
-    ensures { result ≡ arrival_at_lem list.now k }
-{
-    list[k]
-}
-
-// As many arrivals as are taken of n: at most 4,096.
-fn limited(n: usize) -> usize
-    ensures { result ≡ min n 4096 }
-{
-    if n < 4096 { n } else { 4096 }
-}
-
 // Takes a lent run of records apart: their numbers, five for each, from the front of the array on, of at most 4,096 of them.
-pub fn taken_apart(list: &[Arrival], flat: &mut [u32])
-    requires { length flat.old ≡ 20480 }
+pub fn taken_apart(list: &[Arrival], flat: &mut [u32; 20480])
     ensures { flat.new ≡ flat_of list.now (min (length list.now) 4096) flat.old }
 {
-    let n = limited(list.len());
-    let mut k = 0;
-    while k < n {
-        let a = arrival_at(list, k);
-        put(a, k, flat);
-        k += 1;
+    for k in 0..list.len().min(4096) {
+        put(list[k], k, flat);
+    }
+}
+
+impl Flat {
+    // The arrival at place k.
+    #[tactic(auto, using(crate::proofs::Numbers::arrival_at_lem), unfolding(crate::specs::Arrival::arrival_in))]
+    fn arrival(&self, k: usize) -> Arrival
+        requires { (k < self.now.count) × (self.now.count ≤ 4096) }
+        ensures { result ≡ arrival_at (listed self.now) k }
+    {
+        let at = 5 * k;
+        Arrival {
+            tick: self.numbers[at],
+            row: self.numbers[at + 1],
+            len1: self.numbers[at + 2],
+            len2: self.numbers[at + 3],
+            len3: self.numbers[at + 4],
+        }
     }
 }
 
 // Whether the arrival at place k does not stand behind the one before it.
-fn disordered(flat: &[u32], count: usize, k: usize) -> bool
-    requires { (k < count) × (count ≤ 4096) × (length flat.now ≡ 20480) }
-    ensures { result ≡ disordered_lem (arrivals_of flat.now count) k }
+fn disordered(xs: &Flat, k: usize) -> bool
+    requires { (k < xs.now.count) × (xs.now.count ≤ 4096) }
+    ensures { result ≡ disordered_lem (listed xs.now) k }
 {
     if k == 0 {
         return false;
     }
-    let here = 5 * k;
-    let before = here - 5;
-    if flat[before] < flat[here] {
+    let here = xs.arrival(k);
+    let before = xs.arrival(k - 1);
+    if before.tick < here.tick {
         return false;
     }
-    if flat[before] > flat[here] {
+    if before.tick > here.tick {
         return true;
     }
-    flat[before + 1] >= flat[here + 1]
+    before.row >= here.row
 }
 
-// The refusal 15 to 18 of the arrival at place k, or 0; for each row, `last` is one more than the tick of its last arrival.
-fn number_at(
-    flat: &[u32],
-    count: usize,
-    k: usize,
-    last: &[u32; 64],
-    period: &[u32; 64],
-    c1: &[u32; 64],
-    a: &[u32; 64],
-    c2: &[u32; 64],
-    n: usize,
-) -> u32
-    requires { (k < count) × (count ≤ 4096) × (length flat.now ≡ 20480) × (n ≤ 64) × ((i : ℕ) → i < n → (get_or period.now i 0 ≤ 1000000) × (get_or last.now i 0 ≤ 1000000) × (get_or last.now i 0 ≡ last_of (arrivals_of flat.now count) (suc i) k)) }
-    ensures { result ≡ number_at_lem n period.now c1.now a.now c2.now (arrivals_of flat.now count) k }
+// The first of 15 to 18 that the arrival at place k breaks; for each row, `last` is one more than the tick of its last arrival.
+fn check_at(xs: &Flat, k: usize, last: &[u32; 64], t: &Table) -> Result<(), Fault>
+    requires { (k < xs.now.count) × (xs.now.count ≤ 4096) × (t.now.n ≤ 64) × ((i : ℕ) → i < t.now.n → (get_or t.now.period i 0 ≤ 1000000) × (get_or last.now i 0 ≤ 1000000) × (get_or last.now i 0 ≡ last_of (listed xs.now) (suc i) k)) }
+    ensures { number_by result ≡ number_at t.now.n t.now.period t.now.c1 t.now.a t.now.c2 (listed xs.now) k }
 {
-    let at = 5 * k;
-    let tick = flat[at];
-    let row = flat[at + 1] as usize;
-    if row == 0 || row > n {
-        return 15;
+    let x = xs.arrival(k);
+    let row = x.row as usize;
+    if row == 0 || row > t.n {
+        return Err(Fault::NoRow);
     }
-    if tick >= 1000000 || disordered(flat, count, k) {
-        return 16;
+    if x.tick >= 1000000 || disordered(xs, k) {
+        return Err(Fault::Disordered);
     }
     let i = row - 1;
-    if flat[at + 2] > c1[i] || flat[at + 3] > a[i] || flat[at + 4] > c2[i] {
-        return 17;
+    if x.len1 > t.c1[i] || x.len2 > t.a[i] || x.len3 > t.c2[i] {
+        return Err(Fault::TooLong);
     }
     let mark = last[i];
-    if mark > 0 && tick + 1 < mark + period[i] {
-        return 18;
+    if mark > 0 && x.tick + 1 < mark + t.period[i] {
+        return Err(Fault::TooSoon);
     }
-    0
+    Ok(())
 }
 
-// The first bad one of `count` arrivals, and in it the lowest refusal.
-pub fn check_arrivals(
-    flat: &[u32],
-    count: usize,
-    period: &[u32; 64],
-    c1: &[u32; 64],
-    a: &[u32; 64],
-    c2: &[u32; 64],
-    n: usize,
-) -> Heard
-    requires { (count ≤ 4096) × (length flat.now ≡ 20480) × (n ≤ 64) × ((i : ℕ) → i < n → get_or period.now i 0 ≤ 1000000) }
-    ensures { result ≡ heard_of n period.now c1.now a.now c2.now (arrivals_of flat.now count) }
+// The first bad one of the arrivals, and in it the lowest refusal.
+pub fn check_arrivals(xs: &Flat, t: &Table) -> Result<(), Unheard>
+    requires { (xs.now.count ≤ 4096) × (t.now.n ≤ 64) × ((i : ℕ) → i < t.now.n → get_or t.now.period i 0 ≤ 1000000) }
+    ensures { result ≡ heard_of t.now.n t.now.period t.now.c1 t.now.a t.now.c2 (listed xs.now) }
 {
-    let mut last = lists::no_column();
-    let mut k = 0;
-    while k < count {
-        let number = number_at(flat, count, k, &last, period, c1, a, c2, n);
-        if number > 0 {
-            return Heard {
-                number,
-                position: k as u32 + 1,
-            };
-        }
-        let i = flat[5 * k + 1] as usize - 1;
-        last[i] = flat[5 * k] + 1;
-        k += 1;
+    let mut last = lists::blank::<64>(0);
+    for k in 0..xs.count {
+        check_at(xs, k, &last, t).map_err(|fault| Unheard {
+            fault,
+            position: k as u32 + 1,
+        })?;
+        let x = xs.arrival(k);
+        last[x.row as usize - 1] = x.tick + 1;
     }
-    Heard {
-        number: 0,
-        position: 0,
-    }
+    Ok(())
 }
 
-// Whether the arrival at place `next` is the one of row i, counted from 0, at tick t.
-pub fn comes(flat: &[u32], count: usize, next: usize, t: u32, i: usize) -> bool
-    requires { (i < 64) × (count ≤ 4096) × (length flat.now ≡ 20480) }
-    ensures { result ≡ (ltb next count && is_of (arrivals_of flat.now count) i t next) }
+// What the arrival at place `next` brings, if it is the one of row i, counted from 0, at tick t.
+pub fn brought(xs: &Flat, next: usize, t: u32, i: usize) -> Option<[u32; 3]>
+    requires { (i < 64) × (xs.now.count ≤ 4096) }
+    ensures { result ≡ cond (ltb next xs.now.count && is_of (listed xs.now) i t next) (Some (lens_of (arrival_at (listed xs.now) next))) None }
 {
-    if next >= count {
-        return false;
+    if next >= xs.count {
+        return None;
     }
-    if flat[5 * next] != t {
-        return false;
+    let x = xs.arrival(next);
+    if x.tick != t || x.row as usize != i + 1 {
+        return None;
     }
-    flat[5 * next + 1] as usize == i + 1
-}
-
-// The lengths that the arrival at place k brings.
-pub fn lens_at(flat: &[u32], count: usize, k: usize) -> [u32; 3]
-    requires { (k < count) × (count ≤ 4096) × (length flat.now ≡ 20480) }
-    ensures { result ≡ lens_of (arrival_at_lem (arrivals_of flat.now count) k) }
-{
-    [flat[5 * k + 2], flat[5 * k + 3], flat[5 * k + 4]]
+    Some([x.len1, x.len2, x.len3])
 }

@@ -10,10 +10,8 @@ pub fn word(bytes: &[u8], at: usize, count: usize) -> u64
     ensures { (result ≡ bits_value bytes.now (8 * at) (8 * count)) × (result < 2 ^ (8 * count)) }
 {
     let mut r: u64 = 0;
-    let mut i = 0;
-    while i < count {
-        r = r * 256 + bytes[at + i] as u64;
-        i += 1;
+    for byte in &bytes[at..at + count] {
+        r = r * 256 + u64::from(*byte);
     }
     r
 }

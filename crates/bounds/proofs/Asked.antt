@@ -1,17 +1,17 @@
 -- Laws of the demand, once over the list of terms: it grows with the time, and by one term at a time.
-use Prim.Native.Nat.{ℕ, zero, suc, ◌+◌, ◌-◌, ◌*◌, ◌/◌, ◌≤◌, ◌<◌, zero-le}
+use Prim.Native.Nat.{ℕ, zero, suc, ◌+◌, ◌-◌, ◌*◌, ◌/◌, ◌%◌, min, ◌≤◌, ◌<◌, zero-le}
 use mathlib.Core.Path.{◌≡◌, refl, ◌∙◌, ap₂}
 use mathlib.Core.Bool.{Bool, true, false, cond}
 use mathlib.Core.List.{List, [], ◌∷◌, ◌++◌}
 use native.Mathlib.Omega.{arith}
-use native.Mathlib.Numerals.{add-one}
 use native.Mathlib.Nat.{div-zero, div-mul-le_self, le-div_iff_mul-le, div-lt_iff_lt-mul, mul-le-mul_left, mul-le-mul_right, le_trans, zero-lt-suc, add-le-add, suc-mul}
-use lib.ListN.{length, get_or}
+use lib.ListN.{length, get_or, take}
 use lib.Dec.{eqb}
-use Rattle.lists.specs.Tab.{tab}
+use Rattle.std.proofs.lemmas.Grind.{div_ceil_times}
+use Rattle.std.proofs.lemmas.List.{take_more}
 use Rattle.lists.specs.Total.{total}
-use Rattle.bounds.specs.Demand.{Term, ceil, demand, GoodTerms}
-use Rattle.bounds.specs.Terms.{term_at, terms_on, terms_in}
+use Rattle.bounds.specs.Demand.{Term, ceil, demand, GoodTerms, no_term}
+use Rattle.bounds.specs.Terms.{term_at, terms_on}
 
 -- a larger number has no smaller quotient
 div_mono : (p : ℕ) {a b : ℕ} → a ≤ b → a / p ≤ b / p
@@ -25,11 +25,27 @@ le-ceil t period c some h =
     let k : t + (period - 1) < suc c * period = (div-lt_iff_lt-mul some).0 (omega arith) in
     omega (arith, suc-mul c period)
 
+-- rounded up
+pub ceil-is : (t period : ℕ) → 1 ≤ period → t / period + min 1 (t % period) ≡ ceil t period
+unfolding ceil
+ceil-is t period some =
+    let q : ℕ = t / period + min 1 (t % period) in
+    let (a, b) = div_ceil_times t period some in
+    let up : q ≤ (t + (period - 1)) / period = (le-div_iff_mul-le some).1 (omega arith) in
+    let down : (t + (period - 1)) / period < suc q = (div-lt_iff_lt-mul some).1 (omega (arith, suc-mul q period)) in
+    omega arith
+
 -- a term whose length is at most its period asks for less than t and one period more
 pub share_le : (t period len : ℕ) → len ≤ period → ceil t period * len ≤ t + (period - 1)
 unfolding ceil
 share_le t period len h =
     le_trans (mul-le-mul_left ((t + (period - 1)) / period) h) (div-mul-le_self (t + (period - 1)) period)
+
+-- so with what is rounded up
+pub share_up : (t period len q : ℕ) → 1 ≤ period → len ≤ period → q ≡ t / period + min 1 (t % period) → (q * len ≡ ceil t period * len) × (q * len ≤ t + (period - 1))
+share_up t period len q some h e =
+    let x : q ≡ ceil t period = e ∙ ceil-is t period some in
+    rw x (refl, share_le t period len h)
 
 -- within one period a term is asked for once
 pub once : (t period len : ℕ) → 1 ≤ t → t ≤ period → ceil t period * len ≡ len
@@ -65,9 +81,9 @@ demand-append [] ys t = omega arith
 demand-append (x ∷ xs) ys t = omega (arith, demand-append xs ys t)
 
 -- one term more
-pub demand_more : (periods lens : List ℕ) (i t : ℕ) → demand (terms_in periods lens (i + 1)) t ≡ demand (terms_in periods lens i) t + ceil t (get_or periods i 0) * get_or lens i 0
-unfolding demand terms_in tab
-demand_more periods lens i t = rw (add-one, demand-append (tab i (term_at periods lens)) (term_at periods lens i ∷ []) t) (omega arith)
+pub demand_more : (terms : List Term) (i t : ℕ) → i < length terms → demand (take (i + 1) terms) t ≡ demand (take i terms) t + ceil t (get_or terms i no_term).period * (get_or terms i no_term).len
+unfolding demand
+demand_more terms i t h = rw (take_more terms i no_term h, demand-append (take i terms) (get_or terms i no_term ∷ []) t) (omega arith)
 
 -- the demand of the first k tasks on a processor, as a sum over the tasks
 pub demand_on : (periods lens homes : List ℕ) (p k t : ℕ) → demand (terms_on periods lens homes p k) t ≡ total k (λ i. cond (eqb (get_or homes i 0) p) (ceil t (get_or periods i 0) * get_or lens i 0) 0)

@@ -2,4 +2,4 @@ pub mod Asked
 pub mod Terms
 pub mod Sequence
 pub mod Search
-pub mod Lanes
+pub mod Filling

@@ -1,10 +1,10 @@
 -- The demand of a list of terms, for sections and stages alike.
 use Rattle.std.specs.Prelude.{ℕ, ◌+◌, ◌-◌, ◌*◌, ◌/◌, ◌≤◌, ◌<◌, List, [], ◌∷◌, length, get_or}
+use Rattle.bounds.specs.declared.Term as declared
 
 -- what a better-ranked task asks for: a length, once in each period
-pub record Term : Type 0 where
-  pub period : ℕ
-  pub len : ℕ
+abbrev pub Term : Type 0
+Term = declared.Term
 
 -- ceil(t / T)
 unfoldable pub ceil : ℕ → ℕ → ℕ

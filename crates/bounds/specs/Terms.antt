@@ -1,6 +1,5 @@
 -- The terms that count in a bound. Tasks are numbered by rank, so that the better-ranked tasks of task k are those below k.
-use Rattle.std.specs.Prelude.{ℕ, zero, suc, ◌*◌, List, [], ◌∷◌, ◌++◌, cond, get_or, drop, eqb}
-use Rattle.lists.specs.Tab.{tab}
+use Rattle.std.specs.Prelude.{ℕ, zero, suc, ◌*◌, List, [], ◌∷◌, ◌++◌, cond, get_or, take, drop, eqb}
 use Rattle.bounds.specs.Demand.{Term}
 
 -- task i's term, from the columns of periods and lengths
@@ -12,10 +11,6 @@ unfoldable pub terms_on : List ℕ → List ℕ → List ℕ → ℕ → ℕ →
 terms_on periods lens homes p zero = []
 terms_on periods lens homes p (suc k) = terms_on periods lens homes p k ++ cond (eqb (get_or homes k 0) p) (term_at periods lens k ∷ []) []
 
--- the terms in the first n places of two arrays
-unfoldable pub terms_in : List ℕ → List ℕ → ℕ → List Term
-terms_in periods lens n = tab n (term_at periods lens)
-
--- the first n terms in processor p's lane: 64 places of two arrays are for each processor
-unfoldable pub lane : List ℕ → List ℕ → ℕ → ℕ → List Term
-lane periods lens p n = terms_in (drop (64 * p) periods) (drop (64 * p) lens) n
+-- the first n terms in processor p's lane: 64 places of an array are for each processor
+unfoldable pub lane : List Term → ℕ → ℕ → List Term
+lane terms p n = take n (drop (64 * p) terms)

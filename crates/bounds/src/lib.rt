@@ -3,110 +3,111 @@
 
 ghost use Rattle.std.specs.Prelude.{◌≡◌, ◌+◌, ◌*◌, ◌<◌, ◌≤◌, length, get_or, set};
 ghost use Rattle.lists.specs.Tab.{blank};
-ghost use Rattle.bounds.specs.Demand.{ceil, demand as demand_lem, GoodTerms};
-ghost use Rattle.bounds.specs.Terms.{terms_in, lane};
+ghost use Rattle.bounds.specs.Demand.{ceil, demand as demand_lem, GoodTerm, GoodTerms, no_term};
+ghost use Rattle.bounds.specs.Terms.{lane};
 ghost use Rattle.bounds.specs.Bound.{least as least_lem, bound_of as bound_of_lem};
 
-// A bound, or, where there is none up to the limit, the value that broke it.
+// The value that broke a limit.
+#[derive(Clone, Copy, Debug, PartialEq, Eq)]
+pub struct Broke {
+    pub value: u32,
+}
+
+// What a better-ranked task asks for: a length, once in each period.
 #[derive(Clone, Copy)]
-pub enum Bound {
-    At(u32),
-    Missing(u32),
+pub struct Term {
+    pub period: u32,
+    pub len: u32,
 }
 
-// What a term asks for within t: its length once, as long as t is within one period.
-fn share(t: u32, period: u32, len: u32) -> u32
-    requires { (1 ≤ t) × (t ≤ 1000000) × (1 ≤ period) × (period ≤ 1000000) × (len ≤ period) }
-    ensures { (result ≡ ceil t period * len) × (result ≤ 2000000) }
-{
-    if t <= period {
-        return len;
+impl Term {
+    // What is asked for within t: the length once, as long as t is within one period.
+    fn share(&self, t: u32) -> u32
+        requires { (1 ≤ t) × (t ≤ 1000000) × GoodTerm self.now }
+        ensures { (result ≡ ceil t self.now.period * self.now.len) × (result ≤ 2000000) }
+    {
+        if t <= self.period {
+            return self.len;
+        }
+        t.div_ceil(self.period) * self.len
     }
-    (t + (period - 1)) / period * len
 }
 
-// What is asked for within t: own, and the terms in the first n places.
-fn demand(period: &[u32], len: &[u32], n: usize, own: u32, t: u32) -> u32
-    requires { (n ≤ 64) × (n ≤ length period.now) × (n ≤ length len.now) × (own ≤ 2000000) × (1 ≤ t) × (t ≤ 1000000) × GoodTerms (terms_in period.now len.now n) }
-    ensures { result ≡ own + demand_lem (terms_in period.now len.now n) t }
+// What is asked for within t: own, and the terms.
+fn demand(terms: &[Term], own: u32, t: u32) -> u32
+    requires { (length terms.now ≤ 64) × (own ≤ 2000000) × (1 ≤ t) × (t ≤ 1000000) × GoodTerms terms.now }
+    ensures { result ≡ own + demand_lem terms.now t }
 {
     let mut sum = own;
-    let mut i = 0;
-    while i < n {
-        sum += share(t, period[i], len[i]);
-        i += 1;
+    for x in terms {
+        sum += x.share(t);
     }
     sum
 }
 
 // The least t that is what is asked for within it, or the first t tried that is above the limit: each t tried is what is asked for within
 // the one before.
-fn least(period: &[u32], len: &[u32], n: usize, own: u32, limit: u32) -> Bound
-    requires { (n ≤ 64) × (n ≤ length period.now) × (n ≤ length len.now) × (1 ≤ own) × (own ≤ 2000000) × (limit ≤ 1000000) × GoodTerms (terms_in period.now len.now n) }
-    ensures { result ≡ least_lem (terms_in period.now len.now n) own limit }
+fn least(terms: &[Term], own: u32, limit: u32) -> Result<u32, Broke>
+    requires { (length terms.now ≤ 64) × (1 ≤ own) × (own ≤ 2000000) × (limit ≤ 1000000) × GoodTerms terms.now }
+    ensures { result ≡ least_lem terms.now own limit }
 {
     let mut t = own;
     while t <= limit {
-        let asked = demand(period, len, n, own, t);
+        let asked = demand(terms, own, t);
         if asked == t {
-            return Bound::At(t);
+            return Ok(t);
         }
         t = asked;
     }
-    Bound::Missing(t)
+    Err(Broke { value: t })
 }
 
-// The bound of a length that something may block, among the terms in the first n places.
-fn bound_of(period: &[u32], len: &[u32], n: usize, own: u32, blocking: u32, limit: u32) -> Bound
-    requires { (n ≤ 64) × (n ≤ length period.now) × (n ≤ length len.now) × (own ≤ 1000000) × (blocking ≤ 1000000) × (limit ≤ 1000000) × GoodTerms (terms_in period.now len.now n) }
-    ensures { result ≡ bound_of_lem (terms_in period.now len.now n) own blocking limit }
+// The bound of a length that something may block, among the terms.
+fn bound_of(terms: &[Term], own: u32, blocking: u32, limit: u32) -> Result<u32, Broke>
+    requires { (length terms.now ≤ 64) × (own ≤ 1000000) × (blocking ≤ 1000000) × (limit ≤ 1000000) × GoodTerms terms.now }
+    ensures { result ≡ bound_of_lem terms.now own blocking limit }
 {
     if own == 0 {
-        return Bound::At(0);
+        return Ok(0);
     }
-    least(period, len, n, own + blocking, limit)
+    least(terms, own + blocking, limit)
 }
 
-// The bound of a length that something may block, among the terms in processor p's lane.
-pub fn bound_on(
-    periods: &[u32],
-    lens: &[u32],
-    count: &[u32; 17],
-    p: usize,
-    own: u32,
-    blocking: u32,
-    limit: u32,
-) -> Bound
-    requires { (p < 17) × (get_or count.now p 0 ≤ 64) × (length periods.now ≡ 1088) × (length lens.now ≡ 1088) × (own ≤ 1000000) × (blocking ≤ 1000000) × (limit ≤ 1000000) × GoodTerms (lane periods.now lens.now p (get_or count.now p 0)) }
-    ensures { result ≡ bound_of_lem (lane periods.now lens.now p (get_or count.now p 0)) own blocking limit }
-{
-    let from = 64 * p;
-    let n = count[p] as usize;
-    bound_of(&periods[from..], &lens[from..], n, own, blocking, limit)
+// The terms of the tasks on each processor: 64 places for each at its number, and how many of them are in use.
+#[derive(Drop)]
+pub struct Lanes {
+    pub terms: [Term; 1088],
+    pub count: [u32; 17],
 }
 
-// Stores a term behind the others in processor p's lane.
-pub fn add_term(
-    periods: &mut [u32],
-    lens: &mut [u32],
-    count: &mut [u32; 17],
-    p: usize,
-    period: u32,
-    len: u32,
-)
-    requires { (p < 17) × (get_or count.old p 0 < 64) × (length periods.old ≡ 1088) × (length lens.old ≡ 1088) }
-    ensures { (periods.new ≡ set periods.old (64 * p + get_or count.old p 0) period) × (lens.new ≡ set lens.old (64 * p + get_or count.old p 0) len) × (count.new ≡ set count.old p (get_or count.old p 0 + 1)) }
-{
-    let n = count[p];
-    let at = 64 * p + n as usize;
-    periods[at] = period;
-    lens[at] = len;
-    count[p] = n + 1;
-}
+impl Lanes {
+    // No term in any lane.
+    pub fn new() -> Lanes
+        ensures { (result.terms ≡ blank 1088 no_term) × (result.count ≡ blank 17 0) }
+    {
+        Lanes {
+            terms: [Term { period: 0, len: 0 }; 1088],
+            count: lists::blank(0),
+        }
+    }
 
-// 1088 places, 64 for each processor at its number, with 0 at each.
-pub fn no_lanes() -> [u32; 1088]
-    ensures { result ≡ blank 1088 0 }
-{
-    [0u32; 1088]
+    // The bound of a length that something may block, among the terms in processor p's lane.
+    pub fn bound_on(&self, p: usize, own: u32, blocking: u32, limit: u32) -> Result<u32, Broke>
+        requires { (p < 17) × (get_or self.now.count p 0 ≤ 64) × (own ≤ 1000000) × (blocking ≤ 1000000) × (limit ≤ 1000000) × GoodTerms (lane self.now.terms p (get_or self.now.count p 0)) }
+        ensures { result ≡ bound_of_lem (lane self.now.terms p (get_or self.now.count p 0)) own blocking limit }
+    {
+        let from = 64 * p;
+        let n = self.count[p] as usize;
+        bound_of(&self.terms[from..from + n], own, blocking, limit)
+    }
+
+    // Stores a term behind the others in processor p's lane.
+    pub fn add(&mut self, p: usize, x: Term)
+        requires { (p < 17) × (get_or self.old.count p 0 < 64) }
+        ensures { (self.new.terms ≡ set self.old.terms (64 * p + get_or self.old.count p 0) x) × (self.new.count ≡ set self.old.count p (get_or self.old.count p 0 + 1)) }
+    {
+        let n = self.count[p];
+        self.terms[64 * p + n as usize] = x;
+        self.count[p] = n + 1;
+    }
 }

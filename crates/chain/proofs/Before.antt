@@ -3,7 +3,7 @@ use Prim.Native.Nat.{ℕ, suc, ◌<◌}
 use mathlib.Core.Path.{◌≡◌, refl}
 use mathlib.Core.Bool.{Bool, true, false, cond, ◌&&◌}
 use mathlib.Core.List.{List}
-use mathlib.Core.Option.{Option, none, some}
+use Rattle.std.specs.Prelude.{Option, Some, None}
 use borrow.Author.Tests.{lt-leb}
 use lib.Dec.{ltb, leb}
 use lib.ListN.{length}
@@ -38,17 +38,17 @@ module _ (bounds : List ℕ) (i t : ℕ) (x : Job) where
         go (Running j k) l = part (ltb j 2) (release bounds i x.arrived (suc j)) l
 
     -- where no arrival comes, the job stays as it is,
-    pub released_before : released bounds i t x none ≡ x
+    pub released_before : released bounds i t x None ≡ x
     unfolding admit
     released_before = wake_before
 
     -- and nothing of it comes too early
-    pub late_before : late bounds i t x none ≡ false
+    pub late_before : late bounds i t x None ≡ false
     unfolding late too_soon admit
     late_before = rw wake_before overdue_before
 
   -- the lengths of a job are three, if those that an arrival brings are
-  pub lens_released : length x.lens ≡ 3 → (came : Option (List ℕ)) → ((ls : List ℕ) → came ≡ some ls → length ls ≡ 3) → length (released bounds i t x came).lens ≡ 3
+  pub lens_released : length x.lens ≡ 3 → (came : Option (List ℕ)) → ((ls : List ℕ) → came ≡ Some ls → length ls ≡ 3) → length (released bounds i t x came).lens ≡ 3
   unfolding admit moved
-  lens_released h none f = wake_cases bounds i t (λ y. length y.lens ≡ 3) x h (λ u j e. h)
-  lens_released h (some ls) f = f ls refl
+  lens_released h None f = wake_cases bounds i t (λ y. length y.lens ≡ 3) x h (λ u j e. h)
+  lens_released h (Some ls) f = f ls refl

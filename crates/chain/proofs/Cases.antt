@@ -1,15 +1,15 @@
 -- What holds of each place, or of each job, that a step can lead to holds of the one that it leads to.
 use Prim.Native.Nat.{ℕ, zero, suc, ◌+◌, ◌-◌, ◌≤◌, ◌<◌}
 use mathlib.Core.Path.{◌≡◌, refl}
-use mathlib.Core.Bool.{Bool, true, false, cond}
+use mathlib.Core.Bool.{Bool, true, false, cond, not, ◌&&◌}
 use mathlib.Core.List.{List}
-use mathlib.Core.Option.{Option, none, some}
+use Rattle.std.specs.Prelude.{Option, Some, None, is_some}
 use native.Mathlib.Omega.{arith}
 use borrow.Author.Tests.{ltb-true, ltb-false}
 use lib.Dec.{leb, ltb}
 use lib.ListN.{get_or}
-use Rattle.chain.specs.Job.{Place, Idle, Waiting, Running, Job, moved}
-use Rattle.chain.specs.Release.{release, starts, enter, wake_at, wake, fresh, admit}
+use Rattle.chain.specs.Job.{Place, Idle, Waiting, Running, Job, is_idle, moved}
+use Rattle.chain.specs.Release.{release, starts, enter, wake_at, wake, fresh, admit, too_soon}
 use Rattle.chain.specs.Unit.{running, next, unit_of}
 
 module _ (bounds : List ℕ) (i : ℕ) (Q : Place → Type 0) (a : ℕ) where
@@ -51,8 +51,8 @@ module _ (bounds : List ℕ) (i t : ℕ) (P : Job → Type 0) (x : Job) where
   -- an arrival takes the job over; without one it stays
   pub admit_cases : P x → ((ls : List ℕ) → P (moved (fresh bounds i t x ls (enter bounds i t ls t 3 0)) (enter bounds i t ls t 3 0))) → (came : Option (List ℕ)) → P (admit bounds i t x came)
   unfolding admit
-  admit_cases s w none = s
-  admit_cases s w (some ls) = w ls
+  admit_cases s w None = s
+  admit_cases s w (Some ls) = w ls
 
   -- a unit leaves ticks of the part, or is its last
   pub unit_cases : (j l : ℕ) → (1 < l → P (running t x (Running j (l - 1)))) → (l ≤ 1 → P (moved (running t x (next bounds i x.arrived j)) (next bounds i x.arrived j))) → P (unit_of bounds i t x j l)
@@ -62,3 +62,9 @@ module _ (bounds : List ℕ) (i t : ℕ) (P : Job → Type 0) (x : Job) where
       go : (b : Bool) → ltb 1 l ≡ b → P (cond b (running t x (Running j (l - 1))) (moved (running t x (next bounds i x.arrived j)) (next bounds i x.arrived j)))
       go true p = r (ltb-true 1 l p)
       go false p = e (ltb-false 1 l p)
+
+  -- an arrival comes too early where its task is not idle
+  pub soon : (came : Option (List ℕ)) → too_soon bounds i x came ≡ (is_some came && not (is_idle x.place))
+  unfolding too_soon
+  soon None = refl
+  soon (Some ls) = refl

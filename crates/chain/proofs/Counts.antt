@@ -1,13 +1,15 @@
 -- What is counted of a job: neither a due release nor a unit changes it, and an arrival adds to it. So it is with the units that a job
 -- has run and owes, and with the jobs of a row that have ended and the one that is still there.
-use Prim.Native.Nat.{ℕ, zero, suc, ◌+◌, ◌-◌, ◌≤◌, ◌<◌}
+use Prim.Native.Nat.{ℕ, zero, suc, ◌+◌, ◌-◌, ◌*◌, ◌≤◌, ◌<◌}
 use mathlib.Core.Path.{◌≡◌, refl, sym, ◌∙◌, ap}
 use mathlib.Core.Bool.{Bool, true, false, cond, not}
 use mathlib.Core.List.{List, [], ◌∷◌}
-use mathlib.Core.Option.{some}
+use Rattle.std.specs.Prelude.{Some}
 use native.Mathlib.Omega.{arith}
 use lib.Dec.{leb}
-use lib.ListN.{get_or, length}
+use lib.ListN.{get_or, length, drop}
+use Rattle.std.specs.List.{sum}
+use Rattle.std.proofs.lemmas.List.Sums.{sum_by-cons}
 use Rattle.lists.proofs.Tests.{clash}
 use Rattle.chain.specs.Job.{Place, Idle, Waiting, Running, Job, no_job, is_idle, moved}
 use Rattle.chain.specs.Release.{release, starts, enter, wake, fresh, admit}
@@ -34,6 +36,19 @@ unfolding lens_from
 lens_none j [] h = refl
 lens_none zero (l ∷ ls) h = absurd (omega arith)
 lens_none (suc j) (l ∷ ls) h = lens_none j ls (omega arith)
+
+-- the lengths from part j on are summed up
+pub lens_sum : (j : ℕ) (ls : List ℕ) → lens_from j ls ≡ sum (drop j ls)
+unfolding lens_from
+lens_sum zero [] = refl
+lens_sum (suc j) [] = refl
+lens_sum zero (l ∷ ls) = omega (arith, sum_by-cons (λ x. x) l ls, lens_sum zero ls)
+lens_sum (suc j) (l ∷ ls) = lens_sum j ls
+
+-- and each is at most a number of 32 bits
+pub lens_small : (n j : ℕ) (ls : List ℕ) → length ls ≤ n + j → ((k : ℕ) → get_or ls k 0 < 4294967296) → lens_from j ls ≤ n * 4294967295
+lens_small zero j ls h f = omega (arith, lens_none j ls (omega arith))
+lens_small (suc n) j ls h f = omega (arith, lens_step j ls, lens_small n (suc j) ls (omega arith) f, f j)
 
 -- and an idle task owes nothing
 owes_idle : (ls : List ℕ) (p : Place) → is_idle p ≡ true → owes ls p ≡ 0
@@ -73,7 +88,7 @@ module _ (bounds : List ℕ) (i : ℕ) where
 pub record Counted (count : Job → ℕ) (adds : List ℕ → ℕ) : Type 0 where
   pub start : count no_job ≡ 0
   pub woken : (bounds : List ℕ) (i t : ℕ) (x : Job) → GoodJob x → lens_from 3 x.lens ≡ 0 → count (wake bounds i t x) ≡ count x
-  pub admitted : (bounds : List ℕ) (i t : ℕ) (x : Job) (ls : List ℕ) → is_idle x.place ≡ true → lens_from 3 ls ≡ 0 → count (admit bounds i t x (some ls)) ≡ count x + adds ls
+  pub admitted : (bounds : List ℕ) (i t : ℕ) (x : Job) (ls : List ℕ) → is_idle x.place ≡ true → lens_from 3 ls ≡ 0 → count (admit bounds i t x (Some ls)) ≡ count x + adds ls
   pub served : (bounds : List ℕ) (i t : ℕ) (x : Job) (j l : ℕ) → x.place ≡ Running j l → j < 3 → 1 ≤ l → lens_from 3 x.lens ≡ 0 → count (unit_of bounds i t x j l) ≡ count x
 
 -- the units that a job has run and owes: an arrival adds its lengths

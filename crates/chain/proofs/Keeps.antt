@@ -3,7 +3,7 @@ use Prim.Native.Nat.{ℕ, zero, suc, ◌+◌, ◌-◌, ◌≤◌, ◌<◌}
 use mathlib.Core.Path.{◌≡◌, refl, ◌∙◌, ap}
 use mathlib.Core.Bool.{Bool, true, false, cond}
 use mathlib.Core.List.{List}
-use mathlib.Core.Option.{Option, none, some}
+use Rattle.std.specs.Prelude.{Option, Some, None}
 use native.Mathlib.Omega.{arith}
 use Rattle.chain.specs.Job.{Place, Idle, Waiting, Running, Job, is_idle, moved}
 use Rattle.chain.specs.Release.{enter, wake, fresh, admit, released}
@@ -69,15 +69,15 @@ module _ (bounds : List ℕ) (i t : ℕ) where
     left_wake h = wake_cases bounds i t (λ y. HasLeft y.place) x h (λ u j e. left_enter x.arrived (3 - j) j x.lens)
 
     -- the job of an arrival is good, whatever was there before it
-    pub good_arrival : t ≤ 1000000 → (ls : List ℕ) → GoodJob (admit bounds i t x (some ls))
+    pub good_arrival : t ≤ 1000000 → (ls : List ℕ) → GoodJob (admit bounds i t x (Some ls))
     unfolding admit moved
     good_arrival h ls = record { arrived = h; part = part_enter t 3 0 ls (omega arith) }
 
     -- an arrival, or none: the same
     good_admit : t ≤ 1000000 → GoodJob x → (came : Option (List ℕ)) → GoodJob (admit bounds i t x came)
     unfolding admit
-    good_admit h g none = g
-    good_admit h g (some ls) = good_arrival h ls
+    good_admit h g None = g
+    good_admit h g (Some ls) = good_arrival h ls
 
     ended_admit : (came : Option (List ℕ)) → (admit bounds i t x came).ended ≤ x.ended + 1
     ended_admit = admit_cases bounds i t (λ y. y.ended ≤ x.ended + 1) x (omega arith) (λ ls. ended_moved (fresh bounds i t x ls (enter bounds i t ls t 3 0)) (enter bounds i t ls t 3 0))

@@ -4,7 +4,7 @@ use mathlib.Core.Path.{◌≡◌, refl, sym, ap, ◌∙◌}
 use mathlib.Core.Bool.{Bool, true, false, cond, ◌&&◌}
 use mathlib.Core.List.{List}
 use mathlib.Core.Logic.{◌⊎◌, inl, inr}
-use mathlib.Core.Option.{Option, none, some}
+use Rattle.std.specs.Prelude.{Option, Some, None}
 use native.Mathlib.Nat.{le_trans}
 use native.Mathlib.Decide.{dec_le, ℕ_discrete}
 use native.Mathlib.Omega.{arith}
@@ -26,8 +26,8 @@ use Rattle.chain.proofs.Keeps.{mark-le}
 pub record RowFit (bounds : List ℕ) (i : ℕ) (ar : ℕ → Option (List ℕ)) (period : ℕ) (len : ℕ → ℕ) : Type 0 where
   pub timed : (j : ℕ) → j < 3 → 1 ≤ len j → 1 ≤ get_or bounds (3 * i + j) 0
   pub sum : off bounds i 3 ≤ period
-  pub apart : (a b : ℕ) (ls ks : List ℕ) → ar a ≡ some ls → ar b ≡ some ks → a < b → a + period ≤ b
-  pub lengths : (a : ℕ) (ls : List ℕ) → ar a ≡ some ls → (j : ℕ) → j < 3 → get_or ls j 0 ≤ len j
+  pub apart : (a b : ℕ) (ls ks : List ℕ) → ar a ≡ Some ls → ar b ≡ Some ks → a < b → a + period ≤ b
+  pub lengths : (a : ℕ) (ls : List ℕ) → ar a ≡ Some ls → (j : ℕ) → j < 3 → get_or ls j 0 ≤ len j
 
 -- what is left of part j
 unfoldable pub left : Place → ℕ → ℕ
@@ -65,8 +65,8 @@ in_place x p = record { place = p; arrived = x.arrived; lens = x.lens; begun = x
 
 -- what an arrival brings for part j
 unfoldable pub len_in : Option (List ℕ) → ℕ → ℕ
-len_in none j = 0
-len_in (some ls) j = get_or ls j 0
+len_in None j = 0
+len_in (Some ls) j = get_or ls j 0
 
 module _ (bounds : List ℕ) (i : ℕ) where
   module _ (ar : ℕ → Option (List ℕ)) where
@@ -75,7 +75,7 @@ module _ (bounds : List ℕ) (i : ℕ) where
     new j t = cond (leb (off bounds i j) t) (len_in (ar (t - off bounds i j)) j) 0
 
     -- the job that arrives at a releases its part j once the offset of the part has passed,
-    pub new_at_lem : (j a t : ℕ) (ls : List ℕ) → ar a ≡ some ls → a + off bounds i j ≡ t → new j t ≡ get_or ls j 0
+    pub new_at_lem : (j a t : ℕ) (ls : List ℕ) → ar a ≡ Some ls → a + off bounds i j ≡ t → new j t ≡ get_or ls j 0
     unfolding new len_in
     new_at_lem j a t ls e q =
         let z : t - off bounds i j ≡ a = omega arith in
@@ -84,7 +84,7 @@ module _ (bounds : List ℕ) (i : ℕ) where
     -- and nothing else is released
     pub data New (j t : ℕ) : Type 0 where
       nothing : new j t ≡ 0 → New j t
-      something : (a : ℕ) (ls : List ℕ) → ar a ≡ some ls → a + off bounds i j ≡ t → new j t ≡ get_or ls j 0 → New j t
+      something : (a : ℕ) (ls : List ℕ) → ar a ≡ Some ls → a + off bounds i j ≡ t → new j t ≡ get_or ls j 0 → New j t
 
     -- one of the two is so
     pub new? : (j t : ℕ) → New j t
@@ -93,20 +93,20 @@ module _ (bounds : List ℕ) (i : ℕ) where
       where
         go : (b : Bool) → leb (off bounds i j) t ≡ b → (o : Option (List ℕ)) → ar (t - off bounds i j) ≡ o → New j t
         go false e o q = nothing (rw e)
-        go true e none q = nothing (rw (e, q))
-        go true e (some ls) q = something (t - off bounds i j) ls q (omega (arith, leb-true (off bounds i j) t e)) (rw (e, q))
+        go true e None q = nothing (rw (e, q))
+        go true e (Some ls) q = something (t - off bounds i j) ls q (omega (arith, leb-true (off bounds i j) t e)) (rw (e, q))
 
     -- nothing of part j is released in tick t, if the job that would release it there has none of it
-    new_none : (j t : ℕ) → ((a : ℕ) (ls : List ℕ) → ar a ≡ some ls → a + off bounds i j ≡ t → get_or ls j 0 ≡ 0) → new j t ≡ 0
+    new_none : (j t : ℕ) → ((a : ℕ) (ls : List ℕ) → ar a ≡ Some ls → a + off bounds i j ≡ t → get_or ls j 0 ≡ 0) → new j t ≡ 0
     new_none j t h = elim (new? j t) [ nothing e ↦ e | something a ls e q r ↦ r ∙ h a ls e q ]
 
     -- the job is of the last arrival before tick t
     abbrev Last : ℕ → ℕ → Type 0
-    Last t a = (b : ℕ) (ks : List ℕ) → ar b ≡ some ks → b < t → b ≤ a
+    Last t a = (b : ℕ) (ks : List ℕ) → ar b ≡ Some ks → b < t → b ≤ a
 
     -- the job of the last arrival, before tick t
     pub record Live (t : ℕ) (x : Job) : Type 0 where
-      pub came : ar x.arrived ≡ some x.lens
+      pub came : ar x.arrived ≡ Some x.lens
       pub past : x.arrived < t
       pub last : Last t x.arrived
 
@@ -114,7 +114,7 @@ module _ (bounds : List ℕ) (i : ℕ) where
     pub record IsIdle (t : ℕ) (x : Job) : Type 0 where
       pub unbegun : x.begun ≡ 0
       pub last : Last t x.arrived
-      pub all_past : (a : ℕ) (ls : List ℕ) → ar a ≡ some ls → a < t → (j : ℕ) → j < 3 → a + off bounds i j < t
+      pub all_past : (a : ℕ) (ls : List ℕ) → ar a ≡ Some ls → a < t → (j : ℕ) → j < 3 → a + off bounds i j < t
 
     -- a task that waits until u for part j
     pub record IsWaiting (t : ℕ) (x : Job) (u j : ℕ) : Type 0 where
@@ -203,14 +203,14 @@ module _ (bounds : List ℕ) (i : ℕ) where
       off_top j h = le_trans (off-le bounds i j 3 h) fit.sum
 
       -- a part that takes time has a bound
-      gap : (j a : ℕ) (ls : List ℕ) → j < 3 → ar a ≡ some ls → 1 ≤ get_or ls j 0 → off bounds i j < off bounds i (suc j)
+      gap : (j a : ℕ) (ls : List ℕ) → j < 3 → ar a ≡ Some ls → 1 ≤ get_or ls j 0 → off bounds i j < off bounds i (suc j)
       gap j a ls hj e p = omega (arith, off-suc bounds i j, fit.timed j hj (omega (arith, fit.lengths a ls e j hj)))
 
       -- only the last job releases anything: each one before it has come to its end
       new_other : (t : ℕ) (x : Job) → Live (suc t) x → (j : ℕ) → j < 3 → (x.arrived + off bounds i j ≡ t → ⊥) → new j t ≡ 0
       new_other t x v j hj away = new_none j t (λ b ks e q. elim (dec_le 1 (get_or ks j 0)) [ yes p ↦ absurd (earlier b ks e q p) | no z ↦ omega arith ])
         where
-          earlier : (b : ℕ) (ks : List ℕ) → ar b ≡ some ks → b + off bounds i j ≡ t → 1 ≤ get_or ks j 0 → ⊥
+          earlier : (b : ℕ) (ks : List ℕ) → ar b ≡ Some ks → b + off bounds i j ≡ t → 1 ≤ get_or ks j 0 → ⊥
           earlier b ks e q p =
               let lt : b < x.arrived = omega (arith, v.last b ks e (omega arith)) in
               omega (arith, fit.apart b x.arrived ks x.lens e v.came lt, gap j b ks hj e p, off_top (suc j) hj)
@@ -227,7 +227,7 @@ module _ (bounds : List ℕ) (i : ℕ) where
       to_idle : (t : ℕ) (x : Job) → Live t x → x.begun ≡ 0 → ((j : ℕ) → j < 3 → x.arrived + off bounds i j < t) → IsIdle t x
       to_idle t x v z past = record { unbegun = z; last = v.last; all_past = all }
         where
-          all : (b : ℕ) (ks : List ℕ) → ar b ≡ some ks → b < t → (j : ℕ) → j < 3 → b + off bounds i j < t
+          all : (b : ℕ) (ks : List ℕ) → ar b ≡ Some ks → b < t → (j : ℕ) → j < 3 → b + off bounds i j < t
           all b ks e hb j hj =
               elim (ℕ_discrete b x.arrived) [
                 | yes q ↦ omega (arith, past j hj)
@@ -314,9 +314,9 @@ module _ (bounds : List ℕ) (i : ℕ) where
                     (due, new_at_lem j x.arrived t x.lens v.came (omega arith) ∙ w)
 
       -- a tick t without an arrival
-      module _ (t : ℕ) (quiet : ar t ≡ none) where
+      module _ (t : ℕ) (quiet : ar t ≡ None) where
         -- what came up to the tick came before it
-        came_before : (b : ℕ) (ks : List ℕ) → ar b ≡ some ks → b < suc t → b < t
+        came_before : (b : ℕ) (ks : List ℕ) → ar b ≡ Some ks → b < suc t → b < t
         came_before b ks e h = elim (ℕ_discrete b t) [ yes q ↦ clash cc | no q ↦ omega arith ]
 
         module _ (x : Job) where
@@ -376,8 +376,8 @@ module _ (bounds : List ℕ) (i : ℕ) where
               new_ahead t x v (suc j) s (λ e he. new_other t x v e (omega arith) (λ w. omega (arith, off-le bounds i e j (omega arith))))
 
       -- the releases of a tick leave the job as it is,
-      stays_on : (t : ℕ) (x : Job) → ar t ≡ none → wake bounds i t x ≡ x → Fine (suc t) x x.place → Soon t x.arrived x.place
-          → ((j : ℕ) → j < 3 → new j t ≡ 0) → Released t x (released bounds i t x none)
+      stays_on : (t : ℕ) (x : Job) → ar t ≡ None → wake bounds i t x ≡ x → Fine (suc t) x x.place → Soon t x.arrived x.place
+          → ((j : ℕ) → j < 3 → new j t ≡ 0) → Released t x (released bounds i t x None)
       unfolding admit late too_soon
       stays_on t x quiet w f s n =
           rw w
@@ -406,27 +406,27 @@ module _ (bounds : List ℕ) (i : ℕ) where
           })
 
       -- a job arrives, and its task is idle
-      arrives : (t : ℕ) (x : Job) (ls : List ℕ) → ar t ≡ some ls → is_idle (wake bounds i t x).place ≡ true → Released t x (released bounds i t x (some ls))
+      arrives : (t : ℕ) (x : Job) (ls : List ℕ) → ar t ≡ Some ls → is_idle (wake bounds i t x).place ≡ true → Released t x (released bounds i t x (Some ls))
       unfolding admit moved too_soon
       arrives t x ls e h =
-          let y : Job = released bounds i t x (some ls) in
+          let y : Job = released bounds i t x (Some ls) in
           let v : Live (suc t) y = record { came = e; past = omega arith; last = λ b ks eb hb. omega arith } in
-          enters_on t x y (some ls) e refl (rw h) (not_running t x h) refl
+          enters_on t x y (Some ls) e refl (rw h) (not_running t x h) refl
           (enter_ok t y v refl 3 0 refl (omega arith) (λ d hd. absurd (omega arith)))
 
       -- the part that is waited for is due
-      wakes : (t : ℕ) (x : Job) (u j : ℕ) → ar t ≡ none → x.place ≡ Waiting u j → IsWaiting t x u j → u ≤ t → Released t x (released bounds i t x none)
+      wakes : (t : ℕ) (x : Job) (u j : ℕ) → ar t ≡ None → x.place ≡ Waiting u j → IsWaiting t x u j → u ≤ t → Released t x (released bounds i t x None)
       unfolding wake_at admit moved too_soon
       wakes t x u j quiet at f due =
           let y : Job = moved x (enter bounds i x.arrived x.lens t (3 - j) j) in
           let v : Live (suc t) y = same_live (suc t) x y refl refl (live_on t quiet x f.live) in
           let over : (e : ℕ) → e < j → (x.arrived + off bounds i e ≤ t) × (new e t ≡ 0) = λ e he. (omega (arith, f.before e he), waiting_past t quiet x u j f e he) in
-          enters_on t x y none quiet (ap (wake_at bounds i t x) at ∙ rw (le-leb u t due)) refl
+          enters_on t x y None quiet (ap (wake_at bounds i t x) at ∙ rw (le-leb u t due)) refl
           (λ d l q. clash cc) refl
           (enter_ok t y v refl (3 - j) j (omega arith) (omega arith) over)
 
       -- where the period is over, the parts from j on are due and of length 0
-      enter_idle : (t a : ℕ) (ls : List ℕ) → ar a ≡ some ls → a + period ≤ t → (n j : ℕ) → n + j ≡ 3 → t ≤ a + off bounds i j
+      enter_idle : (t a : ℕ) (ls : List ℕ) → ar a ≡ Some ls → a + period ≤ t → (n j : ℕ) → n + j ≡ 3 → t ≤ a + off bounds i j
           → enter bounds i a ls t n j ≡ Idle
       unfolding enter starts
       enter_idle t a ls e far zero j q ahead = refl
@@ -440,7 +440,7 @@ module _ (bounds : List ℕ) (i : ℕ) where
           go (suc l) w ih = absurd (omega (arith, gap j a ls (omega arith) e (omega arith), off_top (suc j) (omega arith)))
 
       -- so an arrival finds idle a task that has been waiting
-      idle_again : (t : ℕ) (x : Job) (u j : ℕ) (ls : List ℕ) → ar t ≡ some ls → IsWaiting t x u j
+      idle_again : (t : ℕ) (x : Job) (u j : ℕ) (ls : List ℕ) → ar t ≡ Some ls → IsWaiting t x u j
           → is_idle (wake_at bounds i t x (Waiting u j)).place ≡ true
       unfolding wake_at moved is_idle
       idle_again t x u j ls e f =
@@ -454,23 +454,23 @@ module _ (bounds : List ℕ) (i : ℕ) where
       by_place : (t : ℕ) (x : Job) (p : Place) (o : Option (List ℕ)) → ar t ≡ o → Fine t (in_place x p) p → Soon t x.arrived p
           → Released t (in_place x p) (released bounds i t (in_place x p) o)
       unfolding wake_at is_idle
-      by_place t x Idle none e f s =
+      by_place t x Idle None e f s =
           let y : Job = in_place x Idle in
           stays_on t y e refl (idle_on t e y f) tt (idle_new t e y f)
-      by_place t x Idle (some ls) e f s = arrives t (in_place x Idle) ls e refl
-      by_place t x (Waiting u j) none e f s =
+      by_place t x Idle (Some ls) e f s = arrives t (in_place x Idle) ls e refl
+      by_place t x (Waiting u j) None e f s =
           let y : Job = in_place x (Waiting u j) in
           elim (dec_le u t) [
             | yes h ↦ wakes t y u j e refl f h
             | no h ↦ stays_on t y e (rw (lt-leb u t (omega arith))) (waiting_on t e y u j f (omega arith)) tt (waiting_new t e y u j f (omega arith))
           ]
-      by_place t x (Waiting u j) (some ls) e f s =
+      by_place t x (Waiting u j) (Some ls) e f s =
           let y : Job = in_place x (Waiting u j) in
           arrives t y ls e (idle_again t y u j ls e f)
-      by_place t x (Running j l) none e f s =
+      by_place t x (Running j l) None e f s =
           let y : Job = in_place x (Running j l) in
           stays_on t y e refl (running_on t e y j l f) s (running_new t e y j l f s)
-      by_place t x (Running j l) (some ls) e f s =
+      by_place t x (Running j l) (Some ls) e f s =
           absurd (omega (arith, fit.apart x.arrived t x.lens ls f.live.came e f.live.past, off_top (suc j) f.inside))
 
       -- the releases of a tick find every part before ended, and take the job on

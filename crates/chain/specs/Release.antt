@@ -1,6 +1,5 @@
 -- Releases of row i. A bound stands for each part of each row, three to a row.
-use Rattle.std.specs.Prelude.{ℕ, zero, suc, ◌+◌, ◌-◌, ◌*◌, Bool, false, cond, not, ◌&&◌, ◌||◌, List, get_or, leb, ltb}
-use Rattle.std.proofs.Math.Option.{Option, none, some}
+use Rattle.std.specs.Prelude.{ℕ, zero, suc, ◌+◌, ◌-◌, ◌*◌, Bool, false, cond, not, ◌&&◌, ◌||◌, List, get_or, leb, ltb, Option, Some, None}
 use Rattle.chain.specs.Job.{Place, Idle, Waiting, Running, Job, is_idle, moved}
 
 -- how long after the arrival part j comes: the bounds of the parts before it
@@ -45,8 +44,8 @@ module _ (bounds : List ℕ) (i : ℕ) where
 
   -- "then releases that an arrival makes due at once"
   unfoldable pub admit : ℕ → Job → Option (List ℕ) → Job
-  admit t x none = x
-  admit t x (some ls) = moved (fresh t x ls (enter t ls t 3 0)) (enter t ls t 3 0)
+  admit t x None = x
+  admit t x (Some ls) = moved (fresh t x ls (enter t ls t 3 0)) (enter t ls t 3 0)
 
   -- the job once the releases of tick t are in, where an arrival brings these lengths, or none comes
   abbrev pub released : ℕ → Job → Option (List ℕ) → Job
@@ -63,8 +62,8 @@ module _ (bounds : List ℕ) (i : ℕ) where
 
   -- or an arrival finds its task not idle
   unfoldable pub too_soon : Job → Option (List ℕ) → Bool
-  too_soon x none = false
-  too_soon x (some ls) = not (is_idle x.place)
+  too_soon x None = false
+  too_soon x (Some ls) = not (is_idle x.place)
 
   -- 19 is given for the row in tick t
   unfoldable pub late : ℕ → Job → Option (List ℕ) → Bool

@@ -1,6 +1,6 @@
 -- What demand 3 says of every call of the run.
 use Prim.Native.Nat.{ℕ, ◌+◌, ◌*◌, ◌≤◌, ◌<◌}
-use mathlib.Core.Path.{◌≡◌, refl}
+use mathlib.Core.Path.{◌≡◌, refl, ap}
 use mathlib.Core.Bool.{Bool, true, false, cond}
 use mathlib.Core.List.{List}
 use native.Mathlib.Omega.{arith}
@@ -10,15 +10,16 @@ use lib.Dec.{ltb}
 use Rattle.lists.proofs.Tab.{get_or-blank}
 use Rattle.lists.proofs.First.{first_yes}
 use Rattle.table.specs.declared.Table.{Table}
-use Rattle.table.specs.Table.{reading_of}
+use Rattle.table.specs.Table.{reading_of, number_in, table_in}
 use Rattle.table.proofs.Good.{table_good, number_le as table-le}
 use Rattle.plan.specs.declared.Plan.{Plan}
-use Rattle.plan.specs.declared.Outcome.{Outcome}
-use Rattle.plan.specs.declared.Outcome.TheVariants.{Planned, Failed}
-use Rattle.plan.specs.Trial.{number_of, names_of, mark_of, value_of}
-use Rattle.plan.specs.Planning.{planned_of}
+use Rattle.std.specs.Prelude.{Result, Ok, Err}
+use Rattle.plan.specs.declared.NoPlan.{NoPlan}
+use Rattle.plan.specs.Trial.{number_of, names_of, mark_of, value_of, plan_in}
+use Rattle.plan.specs.Planning.{is_planned, planned_of}
 use Rattle.arrivals.specs.declared.Arrival.{Arrival}
 use Rattle.arrivals.specs.Arrival.{brings}
+use Rattle.arrivals.specs.Check.{number_heard}
 use Rattle.arrivals.proofs.Good.{number_le as heard-le}
 use Rattle.machine.specs.Chart.{chart_of}
 use Rattle.machine.specs.Tick.{late_at}
@@ -35,7 +36,7 @@ call_le : (t : Table) (xs : List Arrival) (f w size : ℕ) → call_number t xs 
 unfolding call_number
 call_le t xs f w size = go (bad_window f w) (ltb size (t.m * w)) (ltb 4096 (length xs))
   where
-    go : (a b c : Bool) → cond a 12 (cond b 13 (cond c 14 (heard t xs).number)) ≤ 18
+    go : (a b c : Bool) → cond a 12 (cond b 13 (cond c 14 (number_heard (heard t xs)))) ≤ 18
     go true b c = omega arith
     go false true c = omega arith
     go false false true = omega arith
@@ -49,10 +50,10 @@ record Keeps (t : Table) (p : Plan) (x : Ran) : Type 0 where
 module _ (bs : List ℕ) (xs : List Arrival) (f w size : ℕ) where
   -- the table, its plan, and what is shown of every answer
   abbrev t : Table
-  t = (reading_of bs).table
+  t = table_in (reading_of bs)
 
   abbrev p : Plan
-  p = (planned_of t).plan
+  p = plan_in (planned_of t)
 
   abbrev Kept : Ran → Type 0
   Kept = Keeps t p
@@ -69,9 +70,9 @@ module _ (bs : List ℕ) (xs : List Arrival) (f w size : ℕ) where
       go true e = below (ltb-true a b e)
       go false e = not-below (ltb-false a b e)
 
-  module _ (read : (reading_of bs).number ≡ 0) where
+  module _ (read : number_in (reading_of bs) ≡ 0) where
     -- the ticks: none is late, and the worst responses are the machine's
-    stepped : (planned_of t).outcome ≡ Planned → (heard t xs).number ≡ 0 → Kept (stepped_of (chart_of t p) xs f w)
+    stepped : is_planned (planned_of t) ≡ true → number_heard (heard t xs) ≡ 0 → Kept (stepped_of (chart_of t p) xs f w)
     unfolding stepped_of chart_of
     stepped planned fine =
         let d = demand_3 bs read planned (brings xs) (list_valid t (table_good bs (reading_of bs) refl read) xs fine) in
@@ -83,7 +84,7 @@ module _ (bs : List ℕ) (xs : List Arrival) (f w size : ℕ) where
         (λ h. record { number_le = omega arith; worst-le = d.worst (f + w) })
 
     -- refusals 12 to 18
-    called : (planned_of t).outcome ≡ Planned → Kept (call_answer t p xs f w size)
+    called : is_planned (planned_of t) ≡ true → Kept (call_answer t p xs f w size)
     unfolding call_answer
     called planned =
         tested 0 (call_number t xs f w size) _ _
@@ -91,18 +92,18 @@ module _ (bs : List ℕ) (xs : List Arrival) (f w size : ℕ) where
         (λ h. stepped planned (allowed t xs f w size (omega arith)).good)
 
     -- refusal 11
-    tried : (o : Outcome) → (planned_of t).outcome ≡ o → Kept (cond (ltb 0 (number_of o)) (refused (number_of o) (names_of o) (mark_of o) (value_of o)) (call_answer t p xs f w size))
+    tried : (o : Result Plan NoPlan) → planned_of t ≡ o → Kept (cond (ltb 0 (number_of o)) (refused (number_of o) (names_of o) (mark_of o) (value_of o)) (call_answer t p xs f w size))
     unfolding number_of
-    tried Planned e = called e
-    tried (Failed row mark value) e = refusal 11 _ _ _ (omega arith)
+    tried (Ok plan) e = called (ap is_planned e)
+    tried (Err x) e = refusal 11 _ _ _ (omega arith)
 
   -- refusals 1 to 9
   answered : Kept (run_answer (reading_of bs) xs f w size)
   unfolding run_answer table_answer
   answered =
-      tested 0 (reading_of bs).number _ _
+      tested 0 (number_in (reading_of bs)) _ _
       (λ h. refusal _ _ _ _ (omega (arith, table-le bs)))
-      (λ h. tried (omega arith) (planned_of t).outcome refl)
+      (λ h. tried (omega arith) (planned_of t) refl)
 
 -- no worst response that a call returns is above the plan's bound,
 pub responses : Responses

@@ -4,7 +4,6 @@ use mathlib.Core.Path.{◌≡◌, refl, ap, ◌∙◌, subst}
 use mathlib.Core.Bool.{Bool, true, false, cond}
 use mathlib.Core.List.{List}
 use mathlib.Core.Logic.{◌⊎◌, inl, inr}
-use mathlib.Core.Option.{some}
 use native.Mathlib.Decide.{dec_le, ℕ_discrete}
 use native.Mathlib.Omega.{arith}
 use lib.ListN.{get_or, set}
@@ -12,6 +11,7 @@ use lib.Dec.{ltb}
 use Rattle.lists.proofs.Sets.{set-within}
 use Rattle.lists.proofs.First.{first_none}
 use Rattle.lists.proofs.Tab.{get_or-blank}
+use Rattle.std.specs.Prelude.{Some}
 use Rattle.chain.specs.declared.Place.{Place}
 use Rattle.chain.specs.declared.Place.TheVariants.{Idle, Waiting, Running}
 use Rattle.chain.specs.declared.Job.{Job}
@@ -40,7 +40,7 @@ module _ (s : System) where
   no_late t = first_none (count s) (λ i. late s.chart.bounds i t (job_at (jobs_at s.chart s.ar t) i) (s.ar i t)) (λ i hi. (release s t (always s t) i hi).in_time)
 
   -- a part of positive length is released whole, at its tick
-  pub on_time : (i a j : ℕ) (ls : List ℕ) → i < count s → j < 3 → s.ar i a ≡ some ls → 1 ≤ get_or ls j 0
+  pub on_time : (i a j : ℕ) (ls : List ℕ) → i < count s → j < 3 → s.ar i a ≡ Some ls → 1 ≤ get_or ls j 0
       → ((mid s (at_tick i a j) i).arrived ≡ a) × ((mid s (at_tick i a j) i).place ≡ Running j (get_or ls j 0))
   on_time i a j ls hi hj came p = (whose, here)
     where
@@ -109,13 +109,13 @@ module _ (s : System) where
           ]
 
   -- the last unit of a part of positive length runs within its bound
-  pub last_unit : (i a j : ℕ) (ls : List ℕ) → i < count s → j < 3 → s.ar i a ≡ some ls → 1 ≤ get_or ls j 0 → LastUnit i a j
+  pub last_unit : (i a j : ℕ) (ls : List ℕ) → i < count s → j < 3 → s.ar i a ≡ Some ls → 1 ≤ get_or ls j 0 → LastUnit i a j
   last_unit i a j ls hi hj came p =
       let (w, e) = on_time i a j ls hi hj came p in
       unit_from i a j (bound s i j) (at_tick i a j) (get_or ls j 0) hi (omega arith) (omega arith) w e
 
   -- from its release and its bound on, a part has ended
-  pub behind : (i a j t : ℕ) (ls : List ℕ) → i < count s → s.ar i a ≡ some ls → at_tick i a j + bound s i j ≤ t → Ended (mid s t i) a j
+  pub behind : (i a j t : ℕ) (ls : List ℕ) → i < count s → s.ar i a ≡ Some ls → at_tick i a j + bound s i j ≤ t → Ended (mid s t i) a j
   behind i a j t ls hi came le =
       let r = release s t (always s t) i hi in
       let (old, past) = go (mid s t i).place r.fine r.soon in

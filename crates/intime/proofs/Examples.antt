@@ -2,17 +2,19 @@
 -- and that of one which a better-ranked one goes before.
 use Prim.Native.Nat.{ℕ, ◌+◌}
 use mathlib.Core.Path.{◌≡◌, refl}
+use mathlib.Core.Bool.{true}
 use mathlib.Core.List.{List, [], ◌∷◌}
 use lib.ListN.{get_or}
 use Rattle.table.specs.declared.Table.{Table}
-use Rattle.table.specs.Table.{reading_of}
+use Rattle.table.specs.Table.{reading_of, number_in, table_in}
 use Rattle.table.proofs.Given.{PCP, P as caseP, written}
 use Rattle.table.proofs.Good.{table_good}
 use Rattle.plan.specs.declared.Plan.{Plan}
-use Rattle.plan.specs.declared.Outcome.TheVariants.{Planned}
-use Rattle.plan.specs.Planning.{planned_of}
+use Rattle.plan.specs.Trial.{plan_in}
+use Rattle.plan.specs.Planning.{is_planned, planned_of}
 use Rattle.arrivals.specs.declared.Arrival.{Arrival}
 use Rattle.arrivals.specs.Arrival.{brings}
+use Rattle.arrivals.specs.Check.{number_heard}
 use Rattle.chain.specs.declared.Place.{Place}
 use Rattle.chain.specs.declared.Place.TheVariants.{Running}
 use Rattle.machine.specs.Tick.{Arrivals, picked, released_at}
@@ -28,10 +30,10 @@ bytes_p = written (caseP PCP)
 
 -- case P, and its plan
 abbrev P : Table
-P = (reading_of bytes_p).table
+P = table_in (reading_of bytes_p)
 
 abbrev plan_p : Plan
-plan_p = (planned_of P).plan
+plan_p = plan_in (planned_of P)
 
 -- row 2 at tick 0, and row 1 at a tick, each with the table's lengths
 abbrev two : ℕ → List Arrival
@@ -64,10 +66,10 @@ pub record Exact (ar : Arrivals) : Type 0 where
 
 -- what the definitions compute of both
 record Computed : Type 0 where
-  read : (reading_of bytes_p).number ≡ 0
-  planned : (planned_of P).outcome ≡ Planned
-  heard4 : (heard P (two 4)).number ≡ 0
-  heard3 : (heard P (two 3)).number ≡ 0
+  read : number_in (reading_of bytes_p) ≡ 0
+  planned : is_planned (planned_of P) ≡ true
+  heard4 : number_heard (heard P (two 4)) ≡ 0
+  heard3 : number_heard (heard P (two 3)) ≡ 0
   at4 : Waited (brings (two 4))
   at3 : Exact (brings (two 3))
 
@@ -94,7 +96,7 @@ computed =
     }
 
 -- the theorem speaks of both
-under : (tick : ℕ) → (heard P (two tick)).number ≡ 0 → InTime P plan_p (brings (two tick))
+under : (tick : ℕ) → number_heard (heard P (two tick)) ≡ 0 → InTime P plan_p (brings (two tick))
 under tick good =
     demand_3 bytes_p computed.read computed.planned (brings (two tick))
     (list_valid P (table_good bytes_p (reading_of bytes_p) refl computed.read) (two tick) good)

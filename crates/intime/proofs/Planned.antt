@@ -1,6 +1,7 @@
 -- Every plan that the planner finds stands, and every list of arrivals that a run accepts is valid.
 use Prim.Native.Nat.{ℕ, zero, suc, ◌≤◌, ◌<◌}
 use mathlib.Core.Path.{◌≡◌, refl}
+use mathlib.Core.Bool.{true}
 use mathlib.Core.List.{List}
 use native.Mathlib.Omega.{arith}
 use borrow.Author.Tests.{lt-ltb, eq-eqb}
@@ -9,11 +10,12 @@ use Rattle.table.specs.declared.Table.{Table}
 use Rattle.table.specs.Good.{GoodTable}
 use Rattle.bounds.specs.Demand.{Term}
 use Rattle.bounds.specs.Bound.{LeastBound}
-use Rattle.plan.specs.declared.Outcome.TheVariants.{Planned}
-use Rattle.plan.specs.Planning.{planned_of}
+use Rattle.plan.specs.Trial.{plan_in}
+use Rattle.plan.specs.Planning.{is_planned, planned_of}
 use Rattle.plan.proofs.Covers.{plan_bounds, plan_served}
 use Rattle.arrivals.specs.declared.Arrival.{Arrival}
 use Rattle.arrivals.specs.Arrival.{brings}
+use Rattle.arrivals.specs.Check.{number_heard}
 use Rattle.arrivals.specs.Seek.{GoodArrivals}
 use Rattle.arrivals.proofs.Good.{arrivals_good}
 use Rattle.arrivals.proofs.Seeking.{Brought, brings_fits, brings_apart}
@@ -26,7 +28,7 @@ least_covers : (terms : List Term) (len blocking bound : ℕ) → LeastBound ter
 least_covers terms len blocking bound b = record { some = λ h. (b.some h).some; covers = λ h. omega (arith, (b.some h).same) }
 
 -- each row's bounds cover their demands, and the resource that it uses is served, as the row itself shows
-pub plan_stands : (t : Table) → GoodTable t → (planned_of t).outcome ≡ Planned → Stands t (planned_of t).plan
+pub plan_stands : (t : Table) → GoodTable t → is_planned (planned_of t) ≡ true → Stands t (plan_in (planned_of t))
 plan_stands t g e =
     record {
       section = λ i hi. least_covers _ _ _ _ (plan_bounds t g e i hi).section;
@@ -48,7 +50,7 @@ brought_short t i a ls b (suc (suc zero)) h = b.len3
 brought_short t i a ls b (suc (suc (suc j))) h = absurd (omega arith)
 
 -- a list without a refusal is in order, within the table's limits, and each row's arrivals are a period apart
-pub list_valid : (t : Table) → GoodTable t → (xs : List Arrival) → (heard t xs).number ≡ 0 → Valid t (brings xs)
+pub list_valid : (t : Table) → GoodTable t → (xs : List Arrival) → number_heard (heard t xs) ≡ 0 → Valid t (brings xs)
 list_valid t g xs e =
     let good : GoodArrivals t.n t.period t.c1 t.a t.c2 xs = arrivals_good t.n t.period t.c1 t.a t.c2 xs g.rows.1 e in
     record {

@@ -2,13 +2,13 @@
 use Prim.Native.Nat.{ℕ, suc, ◌+◌, ◌*◌, ◌≤◌, ◌<◌}
 use mathlib.Core.Path.{◌≡◌, sym, ap}
 use mathlib.Core.List.{List}
-use mathlib.Core.Option.{Option, some}
 use native.Mathlib.Decide.{dec_le}
 use native.Mathlib.Omega.{arith}
 use lib.ListN.{get_or}
 use Rattle.bounds.specs.Demand.{ceil}
 use Rattle.busy.proofs.Window.{window}
 use Rattle.busy.proofs.Releases.{Spaced, released-le}
+use Rattle.std.specs.Prelude.{Option, Some}
 use Rattle.chain.specs.Release.{off}
 use Rattle.chain.proofs.Offsets.{off-suc, off-le}
 use Rattle.chain.proofs.Row.{RowFit, new, New, nothing, something, new?, off_top}
@@ -18,7 +18,7 @@ module _ (bounds : List ℕ) (i : ℕ) (ar : ℕ → Option (List ℕ)) where
   pub record Release (r j : ℕ) : Type 0 where
     pub when : ℕ
     pub lens : List ℕ
-    pub came : ar when ≡ some lens
+    pub came : ar when ≡ Some lens
     pub inside : j < 3
     pub some-length : 1 ≤ get_or lens j 0
     pub is : when + off bounds i j ≡ r

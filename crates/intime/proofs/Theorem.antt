@@ -3,14 +3,15 @@ use Prim.Native.Nat.{ℕ, zero, suc, ◌+◌, ◌≤◌, ◌<◌}
 use mathlib.Core.Path.{◌≡◌, refl, sym, ◌∙◌, subst}
 use mathlib.Core.List.{List}
 use mathlib.Core.Logic.{◌⊎◌, inl, inr}
-use mathlib.Core.Option.{some}
 use native.Mathlib.Omega.{arith}
 use lib.ListN.{get_or}
+use Rattle.std.specs.Prelude.{Some}
 use Rattle.table.specs.declared.Table.{Table}
-use Rattle.table.specs.Table.{reading_of}
+use Rattle.table.specs.Table.{reading_of, table_in}
 use Rattle.table.specs.Good.{GoodTable}
 use Rattle.table.proofs.Good.{table_good, names_resource}
 use Rattle.plan.specs.declared.Plan.{Plan}
+use Rattle.plan.specs.Trial.{plan_in}
 use Rattle.plan.specs.Planning.{planned_of}
 use Rattle.chain.specs.declared.Place.TheVariants.{Running}
 use Rattle.chain.proofs.Row.{Fine, IsRunning}
@@ -40,13 +41,13 @@ module _ (t : Table) (p : Plan) (g : GoodTable t) (st : Stands t p) (ar : Arriva
   s = system t p g st ar va
 
   -- a part that takes time stands there, whole, at its release
-  whole : (i a j : ℕ) (ls : List ℕ) → i < t.n → j < 3 → ar i a ≡ some ls → 1 ≤ get_or ls j 0
+  whole : (i a j : ℕ) (ls : List ℕ) → i < t.n → j < 3 → ar i a ≡ Some ls → 1 ≤ get_or ls j 0
       → ((released t p ar (release_of p i a j) i).arrived ≡ a) × ((released t p ar (release_of p i a j) i).place ≡ Running j (get_or ls j 0))
   unfolding system chart_of mid
   whole i a j ls hi hj came long = rw (← release_is t p g i a j hi (omega arith)) (on_time s i a j ls hi hj came long)
 
   -- a part of length 0 ends at its release, and any other with its last unit, which runs within the bound
-  ends_at : (i a j : ℕ) (ls : List ℕ) → i < t.n → j < 3 → ar i a ≡ some ls
+  ends_at : (i a j : ℕ) (ls : List ℕ) → i < t.n → j < 3 → ar i a ≡ Some ls
       → (e : ℕ) × Ends t p ar i a j ls e × (release_of p i a j ≤ e) × (e ≤ release_of p i a j + bound_of p i j)
   unfolding system chart_of mid
   ends_at i a j ls hi hj came = go (get_or ls j 0) refl
@@ -67,7 +68,7 @@ module _ (t : Table) (p : Plan) (g : GoodTable t) (st : Stands t p) (ar : Arriva
       omega (arith, mid_soon s n i j 1 hi there, release_is t p g i a j hi (omega arith), bound_is t p g i j hi hj)
 
   -- from its release and its bound on it has ended
-  ended : (i a j n : ℕ) (ls : List ℕ) → i < t.n → j < 3 → ar i a ≡ some ls → release_of p i a j + bound_of p i j ≤ n → Ended (released t p ar n i) a j
+  ended : (i a j n : ℕ) (ls : List ℕ) → i < t.n → j < 3 → ar i a ≡ Some ls → release_of p i a j + bound_of p i j ≤ n → Ended (released t p ar n i) a j
   unfolding system chart_of mid
   ended i a j n ls hi hj came le = behind s i a j n ls hi came (omega (arith, release_is t p g i a j hi (omega arith), bound_is t p g i j hi hj))
 
@@ -116,4 +117,5 @@ for_plans = all_in_time
 pub demand_3 : Demand3
 demand_3 bs read planned =
     let g = table_good bs (reading_of bs) refl read in
-    for_plans (reading_of bs).table (planned_of (reading_of bs).table).plan g (plan_stands (reading_of bs).table g planned)
+    let t = table_in (reading_of bs) in
+    for_plans t (plan_in (planned_of t)) g (plan_stands t g planned)

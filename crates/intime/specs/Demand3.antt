@@ -2,14 +2,13 @@
 -- `get_or list i 0` is what stands at place i of a list. Rows count from 0. Part 0 of a row's chain is stage one, part 1 its section,
 -- part 2 its stage two. The machine is that of crates/machine/specs/Tick.antt, which the run's contract cites; tables and plans are
 -- those of the reader's and the planner's contracts. The proof begins at proofs/Theorem.antt.
-use Rattle.std.specs.Prelude.{ℕ, zero, suc, ◌+◌, ◌*◌, ◌≤◌, ◌<◌, ◌≡◌, List, ◌⊎◌, get_or}
-use Rattle.std.proofs.Math.Option.{some}
+use Rattle.std.specs.Prelude.{ℕ, zero, suc, ◌+◌, ◌*◌, ◌≤◌, ◌<◌, ◌≡◌, true, List, Some, ◌⊎◌, get_or}
 use Rattle.table.specs.declared.Table.{Table}
-use Rattle.table.specs.Table.{reading_of}
+use Rattle.table.specs.Table.{reading_of, number_in, table_in}
 use Rattle.table.specs.Good.{GoodTable}
 use Rattle.plan.specs.declared.Plan.{Plan}
-use Rattle.plan.specs.declared.Outcome.TheVariants.{Planned}
-use Rattle.plan.specs.Planning.{planned_of}
+use Rattle.plan.specs.Trial.{plan_in}
+use Rattle.plan.specs.Planning.{is_planned, planned_of}
 use Rattle.arrivals.specs.declared.Arrival.{Arrival}
 use Rattle.chain.specs.declared.Place.{Place}
 use Rattle.chain.specs.declared.Place.TheVariants.{Idle, Waiting, Running}
@@ -42,8 +41,8 @@ release_of p i a (suc j) = release_of p i a j + bound_of p i j
 -- "any arrivals of each task at least its period apart, stages that take at most the table's time": of any number, at any ticks. Where
 -- row i has an arrival at tick a, `ar i a` has the lengths that it brings.
 pub record Valid (t : Table) (ar : Arrivals) : Type 0 where
-  pub apart : (i a b : ℕ) (ls ks : List ℕ) → i < t.n → ar i a ≡ some ls → ar i b ≡ some ks → a < b → a + get_or t.period i 0 ≤ b
-  pub lengths : (i a : ℕ) (ls : List ℕ) → i < t.n → ar i a ≡ some ls → (j : ℕ) → j < 3 → get_or ls j 0 ≤ len_of t i j
+  pub apart : (i a b : ℕ) (ls ks : List ℕ) → i < t.n → ar i a ≡ Some ls → ar i b ≡ Some ks → a < b → a + get_or t.period i 0 ≤ b
+  pub lengths : (i a : ℕ) (ls : List ℕ) → i < t.n → ar i a ≡ Some ls → (j : ℕ) → j < 3 → get_or ls j 0 ≤ len_of t i j
 
 -- a place is behind part j if that part neither runs nor is still to come
 abbrev pub Behind : ℕ → Place → Type 0
@@ -80,19 +79,19 @@ module _ (t : Table) (p : Plan) (ar : Arrivals) where
 
   pub record InTime : Type 0 where
     -- a stage that takes time is there, whole, at its release
-    pub is_released : (i a j : ℕ) (ls : List ℕ) → i < t.n → j < 3 → ar i a ≡ some ls → 1 ≤ get_or ls j 0
+    pub is_released : (i a j : ℕ) (ls : List ℕ) → i < t.n → j < 3 → ar i a ≡ Some ls → 1 ≤ get_or ls j 0
         → ((released (release_of p i a j) i).arrived ≡ a) × ((released (release_of p i a j) i).place ≡ Running j (get_or ls j 0))
     -- "every stage ends within its bound after its release, if the run goes that far"
-    pub ends : (i a j : ℕ) (ls : List ℕ) → i < t.n → j < 3 → ar i a ≡ some ls
+    pub ends : (i a j : ℕ) (ls : List ℕ) → i < t.n → j < 3 → ar i a ≡ Some ls
         → (e : ℕ) × Ends i a j ls e × (release_of p i a j ≤ e) × (e ≤ release_of p i a j + bound_of p i j)
     -- wherever it ends, it does so at or before its release and its bound;
-    pub within : (i a j e : ℕ) (ls : List ℕ) → i < t.n → j < 3 → ar i a ≡ some ls → Ends i a j ls e → e ≤ release_of p i a j + bound_of p i j
+    pub within : (i a j e : ℕ) (ls : List ℕ) → i < t.n → j < 3 → ar i a ≡ Some ls → Ends i a j ls e → e ≤ release_of p i a j + bound_of p i j
     -- and at every tick from its release and its bound on it has ended
-    pub has_ended : (i a j n : ℕ) (ls : List ℕ) → i < t.n → j < 3 → ar i a ≡ some ls → release_of p i a j + bound_of p i j ≤ n → Ended (released n i) a j
+    pub has_ended : (i a j n : ℕ) (ls : List ℕ) → i < t.n → j < 3 → ar i a ≡ Some ls → release_of p i a j + bound_of p i j ≤ n → Ended (released n i) a j
     -- "no stage is released before the one ahead of it has ended": the one ahead of it in its job,
-    pub in_order : (i a j e : ℕ) (ls : List ℕ) → i < t.n → j < 2 → ar i a ≡ some ls → Ends i a j ls e → e ≤ release_of p i a (suc j)
+    pub in_order : (i a j e : ℕ) (ls : List ℕ) → i < t.n → j < 2 → ar i a ≡ Some ls → Ends i a j ls e → e ≤ release_of p i a (suc j)
     -- or any of a job before;
-    pub job_by_job : (i a b j e : ℕ) (ls ks : List ℕ) → i < t.n → j < 3 → ar i a ≡ some ls → ar i b ≡ some ks → a < b → Ends i a j ls e → e ≤ b
+    pub job_by_job : (i a b j e : ℕ) (ls ks : List ℕ) → i < t.n → j < 3 → ar i a ≡ Some ls → ar i b ≡ Some ks → a < b → Ends i a j ls e → e ≤ b
     -- so that in no tick a row has what refusal 19 is given for, "a stage released while an earlier one of its task is unfinished"
     pub never_late : (n : ℕ) → late_at machine ar n ≡ t.n
     -- "two sections of one resource are never both begun and unfinished"
@@ -102,8 +101,8 @@ module _ (t : Table) (p : Plan) (ar : Arrivals) where
 
 -- THE THEOREM: "For any table with a plan", which are any bytes that are read and planned without refusal, and for any number of ticks
 abbrev pub Demand3 : Type 0
-Demand3 = (bs : List ℕ) → (reading_of bs).number ≡ 0 → (planned_of (reading_of bs).table).outcome ≡ Planned
-    → (ar : Arrivals) → Valid (reading_of bs).table ar → InTime (reading_of bs).table (planned_of (reading_of bs).table).plan ar
+Demand3 = (bs : List ℕ) → number_in (reading_of bs) ≡ 0 → is_planned (planned_of (table_in (reading_of bs))) ≡ true
+    → (ar : Arrivals) → Valid (table_in (reading_of bs)) ar → InTime (table_in (reading_of bs)) (plan_in (planned_of (table_in (reading_of bs)))) ar
 
 -- the same for any plan that stands, whoever made it
 abbrev pub ForPlans : Type 0
@@ -111,8 +110,8 @@ ForPlans = (t : Table) (p : Plan) → GoodTable t → Stands t p → (ar : Arriv
 
 -- and of every call of the run: no worst response that it returns is above the plan's bound,
 abbrev pub Responses : Type 0
-Responses = (bs : List ℕ) (xs : List Arrival) (f w size i j : ℕ) → i < (reading_of bs).table.n → j < 3
-    → get_or (run_answer (reading_of bs) xs f w size).worst (3 * i + j) 0 ≤ bound_of (planned_of (reading_of bs).table).plan i j
+Responses = (bs : List ℕ) (xs : List Arrival) (f w size i j : ℕ) → i < (table_in (reading_of bs)).n → j < 3
+    → get_or (run_answer (reading_of bs) xs f w size).worst (3 * i + j) 0 ≤ bound_of (plan_in (planned_of (table_in (reading_of bs)))) i j
 
 -- and 19 is never given
 abbrev pub Never19 : Type 0

@@ -10,7 +10,9 @@ use lib.Dec.{ltb}
 use Rattle.lists.specs.Tab.{tab, blank, joined}
 use Rattle.table.specs.declared.Table.{Table}
 use Rattle.table.proofs.Given.{PCP, NPP, Given, P, Q, written, reading, ReadBack, hex}
+use Rattle.table.specs.Table.{table_in}
 use Rattle.plan.specs.declared.Plan.{Plan}
+use Rattle.plan.specs.Trial.{plan_in}
 use Rattle.plan.proofs.Given.{planning}
 use Rattle.sheet.specs.Fields.{width, behind, bytes_of, packed}
 use Rattle.sheet.specs.Sheet.{header_bytes, processor_fields, resource_bytes, task_bytes, task_of, plan_bytes}
@@ -66,7 +68,7 @@ data Case : Type 0 where
 abbrev Holds : Case → Type 0
 Holds (bytes t is) = (written t ≡ is) × ReadBack t
 Holds (refused t (number, names, mark, value) at sheet) = called t at sheet ≡ (answer number names mark value, sheet)
-Holds (planned t plan at sheet after) = (called t at sheet ≡ (answer 0 0 0 0, after)) × (listed (reading t).table (planning t).plan ≡ plan)
+Holds (planned t plan at sheet after) = (called t at sheet ≡ (answer 0 0 0 0, after)) × (listed (table_in (reading t)) (plan_in (planning t)) ≡ plan)
 Holds (ran t arrivals (f, w) worst counts trace after) = running t arrivals f w trace ≡ (ran_with (0, 0, 0, 0) (in_line worst) counts, after)
 Holds (not_run t arrivals (f, w) said trace) = running t arrivals f w trace ≡ (ran_with said [] (0, 0, 0), trace)
 

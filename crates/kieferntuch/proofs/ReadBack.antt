@@ -8,8 +8,9 @@ use borrow.Author.Tests.{le-ltb}
 use lib.ListN.{length, take, drop}
 use lib.Seq.{drop_at, take_at, length-take-le}
 use lib.Dec.{ltb}
-use Rattle.table.specs.Table.{reading_of}
+use Rattle.table.specs.Table.{table_in, reading_of}
 use Rattle.table.proofs.Good.{table_good}
+use Rattle.plan.specs.Trial.{plan_in}
 use Rattle.plan.specs.Planning.{planned_of}
 use Rattle.plan.proofs.Covers.{plan_fits}
 use Rattle.sheet.proofs.ReadBack.{PlanRead, plan_size, read_back}
@@ -25,14 +26,14 @@ there sheet at bytes n e l =
 
 -- so they say the plan
 pub sheet_read_back : (bs : List ℕ) (at : ℕ) (sheet : List ℕ) → (plan_answer (reading_of bs) at (length sheet)).number ≡ 0 →
-    let t = (reading_of bs).table in
-    let p = (planned_of t).plan in
+    let t = table_in (reading_of bs) in
+    let p = plan_in (planned_of t) in
     PlanRead (take (12 + 9 * t.n) (drop at (sheet_after (reading_of bs) at sheet))) t.n t.m p.s p.serves p.processor p.d1 p.section p.d2
 unfolding sheet_after
 sheet_read_back bs at sheet e =
     let r = reading_of bs in
-    let t = r.table in
-    let p = (planned_of t).plan in
+    let t = table_in r in
+    let p = plan_in (planned_of t) in
     let ((number, room), found) = planned bs at (length sheet) e in
     let g = table_good bs r refl number in
     let f = plan_fits t g found in

@@ -1,8 +1,10 @@
 -- The sheet once a call of planning is over.
-use Rattle.std.specs.Prelude.{ℕ, ◌+◌, List, ◌++◌, cond, length, take, drop, ltb}
+use Rattle.std.specs.Prelude.{ℕ, ◌+◌, List, ◌++◌, Result, cond, length, take, drop, ltb}
 use Rattle.table.specs.declared.Table.{Table}
-use Rattle.table.specs.declared.Reading.{Reading}
+use Rattle.table.specs.declared.Refusal.{Refusal}
+use Rattle.table.specs.Table.{table_in}
 use Rattle.plan.specs.declared.Plan.{Plan}
+use Rattle.plan.specs.Trial.{plan_in}
 use Rattle.plan.specs.Planning.{planned_of}
 use Rattle.sheet.specs.Sheet.{plan_bytes}
 use Rattle.kieferntuch.specs.Answer.{plan_answer}
@@ -16,8 +18,8 @@ abbrev pub bytes_of : Table → Plan → List ℕ
 bytes_of t p = plan_bytes t.n t.m p.s p.serves p.processor p.d1 p.section p.d2
 
 -- "Nothing lent changes on refusal"
-unfoldable pub sheet_after : Reading → ℕ → List ℕ → List ℕ
+unfoldable pub sheet_after : Result Table Refusal → ℕ → List ℕ → List ℕ
 sheet_after r at sheet =
     cond (ltb 0 (plan_answer r at (length sheet)).number)
     sheet
-    (written_at sheet at (bytes_of r.table (planned_of r.table).plan))
+    (written_at sheet at (bytes_of (table_in r) (plan_in (planned_of (table_in r)))))

@@ -1,21 +1,21 @@
 // What C and Rust call, by the exports of kieferntuch_c; include/kieferntuch.h declares the functions.
 #![tactic(auto)]
 
-ghost use Rattle.std.specs.Prelude.{◌≡◌, not, ◌+◌, ◌*◌, ◌<◌, ◌≤◌, length};
-ghost use Rattle.lists.specs.Tab.{blank};
+ghost use Rattle.std.specs.Prelude.{◌≡◌, not, ◌+◌, ◌*◌, ◌≤◌, length, Err};
 ghost use Rattle.table.specs.Table.{reading_of};
-ghost use Rattle.sheet.specs.Sheet.{plan_bytes, ServesFit, TasksFit};
+ghost use Rattle.plan.specs.Good.{PlanFits};
 ghost use Rattle.run.specs.Answer.{run_answer, trace_after};
-ghost use Rattle.kieferntuch.specs.Answer.{answer as answer_lem, answer_of, short, plan_answer};
-ghost use Rattle.kieferntuch.specs.Sheet.{written_at, sheet_after};
+ghost use Rattle.kieferntuch.specs.Answer.{answer_of, outcome_answer, answered, short, plan_answer};
+ghost use Rattle.kieferntuch.specs.Sheet.{written_at, bytes_of, sheet_after};
 
-use arrivals::Arrival;
-use plan::{Outcome, Plan};
+use arrivals::{Arrival, Flat};
+use plan::{NoPlan, Plan};
 use run::Ran;
+use table::{Refusal, Table};
 
-// The number of the refusal, 0 if there is none, what it names, its mark, and its value.
+// The number of the refusal, 0 if there is none, what it names, its mark, and its value: no Result, since this is the C interface.
 #[repr(C)]
-#[derive(Clone, Copy)]
+#[derive(Clone, Copy, Default)]
 pub struct Answer {
     pub number: u32,
     pub names: u32,
@@ -23,15 +23,38 @@ pub struct Answer {
     pub value: u32,
 }
 
-// An answer of these four numbers.
-fn reply(number: u32, names: u32, mark: u32, value: u32) -> Answer
-    ensures { result ≡ answer_lem number names mark value }
-{
-    Answer {
-        number,
-        names,
-        mark,
-        value,
+// Refusal 10: a sheet without room for the plan.
+const NO_ROOM: Answer = Answer {
+    number: 10,
+    names: 0,
+    mark: 0,
+    value: 0,
+};
+
+// A refusal of a table has neither a mark nor a value.
+impl From<Refusal> for Answer {
+    ghost from_gives = { λ e a. a ≡ answer_of (Err e) };
+
+    fn from(e: Refusal) -> Answer {
+        Answer {
+            number: e.number(),
+            names: e.names(),
+            ..Answer::default()
+        }
+    }
+}
+
+// That no trial succeeds is refusal 11.
+impl From<NoPlan> for Answer {
+    ghost from_gives = { λ e a. a ≡ outcome_answer (Err e) };
+
+    fn from(e: NoPlan) -> Answer {
+        Answer {
+            number: 11,
+            names: e.row,
+            mark: e.mark.number(),
+            value: e.value,
+        }
     }
 }
 
@@ -39,8 +62,10 @@ fn reply(number: u32, names: u32, mark: u32, value: u32) -> Answer
 pub fn kieferntuch_read(table: &[u8]) -> Answer
     ensures { result ≡ answer_of (reading_of table.now) }
 {
-    let no = table::refusal_of(table);
-    reply(no.number, no.names, 0, 0)
+    match table::refusal_of(table) {
+        Some(e) => Answer::from(e),
+        None => Answer::default(),
+    }
 }
 
 // Whether a sheet of this size has room for a plan of n rows from byte at on, whatever at is.
@@ -48,62 +73,35 @@ fn has_room(size: usize, at: usize, n: usize) -> bool
     requires { n ≤ 64 }
     ensures { result ≡ not (short size at n) }
 {
-    if at > size {
-        return false;
-    }
-    size - at >= 12 + 9 * n
+    size.checked_sub(at).is_some_and(|room| room >= 12 + 9 * n)
 }
 
 // Lends the sheet's part from byte at on to the plan writer.
-fn write_at(sheet: &mut [u8], at: usize, n: usize, m: usize, p: Plan)
-    requires { (n ≤ 64) × (m ≤ 16) × (p.s < 16) × (at + (12 + 9 * n) ≤ length sheet.old) × ServesFit p.serves × TasksFit n p.processor p.d1 p.section p.d2 }
-    ensures { sheet.new ≡ written_at sheet.old at (plan_bytes n m p.s p.serves p.processor p.d1 p.section p.d2) }
+fn write_at(sheet: &mut [u8], at: usize, t: &Table, p: &Plan)
+    requires { (t.now.n ≤ 64) × (t.now.m ≤ 16) × (at + (12 + 9 * t.now.n) ≤ length sheet.old) × PlanFits t.now.n p.now }
+    ensures { sheet.new ≡ written_at sheet.old at (bytes_of t.now p.now) }
 {
-    let serves = p.serves;
-    let processor = p.processor;
-    let d1 = p.d1;
-    let section = p.section;
-    let d2 = p.d2;
-    sheet::write_plan(
-        &mut sheet[at..],
-        n,
-        m,
-        p.s,
-        &serves,
-        &processor,
-        &d1,
-        &section,
-        &d2,
-    );
+    sheet::write_plan(&mut sheet[at..], t.n, t.m, p);
+}
+
+// Writes the plan from byte at of the sheet on, or answers why it is refused.
+fn plan_at(table: &[u8], at: usize, sheet: &mut [u8]) -> Result<(), Answer>
+    ensures { (answered result ≡ plan_answer (reading_of table.now) at (length sheet.old)) × (sheet.new ≡ sheet_after (reading_of table.now) at sheet.old) }
+{
+    let t = table::read_table(table)?;
+    if !has_room(sheet.len(), at, t.n) {
+        return Err(NO_ROOM);
+    }
+    let p = plan::plan_table(&t)?;
+    write_at(sheet, at, &t, &p);
+    Ok(())
 }
 
 // Plans a table from any bytes, and writes the plan from byte at of the sheet on.
 pub fn kieferntuch_plan(table: &[u8], at: usize, sheet: &mut [u8]) -> Answer
     ensures { (result ≡ plan_answer (reading_of table.now) at (length sheet.old)) × (sheet.new ≡ sheet_after (reading_of table.now) at sheet.old) }
 {
-    let r = table::read_table(table);
-    if r.number > 0 {
-        return reply(r.number, r.names, 0, 0);
-    }
-    let t = r.table;
-    if !has_room(sheet.len(), at, t.n) {
-        return reply(10, 0, 0, 0);
-    }
-    let tried = plan::plan_table(t);
-    let outcome = tried.outcome;
-    if let Outcome::Failed(row, mark, value) = outcome {
-        return reply(11, row, mark, value);
-    }
-    let p = tried.plan;
-    write_at(sheet, at, t.n, t.m, p);
-    reply(0, 0, 0, 0)
-}
-
-// Room for the numbers of 4,096 arrivals.
-fn no_flat() -> [u32; 20480]
-    ensures { result ≡ blank 20480 0 }
-{
-    [0u32; 20480]
+    plan_at(table, at, sheet).err().unwrap_or_default()
 }
 
 // Runs the planned table from any bytes: steps ticks 0 to from + ticks - 1 and writes those of the window into the trace.
@@ -116,7 +114,10 @@ pub fn kieferntuch_run(
 ) -> Ran
     ensures { (result ≡ run_answer (reading_of table.now) arrivals.now from ticks (length trace.old)) × (trace.new ≡ trace_after (reading_of table.now) arrivals.now from ticks trace.old) }
 {
-    let mut flat = no_flat();
-    arrivals::taken_apart(arrivals, &mut flat);
-    run::run_flat(table, &flat, arrivals.len(), from, ticks, trace)
+    let mut flat = Flat {
+        numbers: lists::blank(0),
+        count: arrivals.len(),
+    };
+    arrivals::taken_apart(arrivals, &mut flat.numbers);
+    run::run_flat(table, &flat, from, ticks, trace)
 }

@@ -1,11 +1,12 @@
 -- The text of a plan, or of why there is none.
-use Rattle.std.specs.Prelude.{ℕ, ◌+◌, List, [], ◌∷◌, ◌++◌, cond, get_or, ltb}
+use Rattle.std.specs.Prelude.{ℕ, ◌+◌, List, [], ◌∷◌, ◌++◌, Result, Ok, Err, cond, get_or, ltb}
 use Rattle.lists.specs.Tab.{joined}
 use Rattle.table.specs.declared.Table.{Table}
-use Rattle.table.specs.declared.Reading.{Reading}
+use Rattle.table.specs.declared.Refusal.{Refusal}
+use Rattle.table.specs.Table.{number_of, names_of}
 use Rattle.plan.specs.declared.Plan.{Plan}
-use Rattle.plan.specs.declared.Outcome.{Outcome}
-use Rattle.plan.specs.Trial.{number_of, names_of, mark_of, value_of}
+use Rattle.plan.specs.declared.NoPlan.{NoPlan}
+use Rattle.plan.specs.Trial.{mark_number}
 use Rattle.plan.specs.Planning.{planned_of}
 use Rattle.listing.specs.Text.{line}
 
@@ -49,15 +50,11 @@ plan_text n m s serves processors d1s sections d2s =
     (plan_line n m s ++ resource_lines serves 16) ++ joined n (task_line processors d1s sections d2s)
 
 -- what comes of planning a table: the text of the plan, or refusal 11 with the row, the mark and the value of the last trial
-unfoldable pub outcome_text : Table → Plan → Outcome → List ℕ
-outcome_text t p o =
-    cond (ltb 0 (number_of o))
-    (refused_line (number_of o) (names_of o) (mark_of o) (value_of o))
-    (plan_text t.n t.m p.s p.serves p.processor p.d1 p.section p.d2)
+unfoldable pub outcome_text : Table → Result Plan NoPlan → List ℕ
+outcome_text t (Ok p) = plan_text t.n t.m p.s p.serves p.processor p.d1 p.section p.d2
+outcome_text t (Err e) = refused_line 11 e.row (mark_number e.mark) e.value
 
 -- what the program says of any bytes, by what they say as a table
-unfoldable pub listing_of : Reading → List ℕ
-listing_of r =
-    cond (ltb 0 r.number)
-    (refused_line r.number r.names 0 0)
-    (outcome_text r.table (planned_of r.table).plan (planned_of r.table).outcome)
+unfoldable pub listing_of : Result Table Refusal → List ℕ
+listing_of (Ok t) = outcome_text t (planned_of t)
+listing_of (Err e) = refused_line (number_of e) (names_of e) 0 0

@@ -1,4 +1,5 @@
 // The text of an answer, written into a lent buffer.
+// No Display: a write! says what it wrote only where it answers Ok, and write_listing cannot fail.
 #![tactic(auto)]
 
 ghost use Rattle.std.specs.Prelude.{◌≡◌, ◌+◌, ◌*◌, ◌<◌, ◌≤◌, [], ◌∷◌, length, drop};
@@ -7,7 +8,7 @@ ghost use Rattle.listing.specs.Listing.{refused_line, plan_line, resource_line, 
 ghost use Rattle.lists.specs.Tab.{joined};
 ghost use Rattle.table.specs.Table.{reading_of};
 
-use plan::Outcome;
+use plan::Plan;
 
 // Writes a part's bytes from place at on, and answers the place behind them.
 fn put_bytes(out: &mut [u8], at: usize, bytes: &[u8]) -> usize
@@ -27,35 +28,21 @@ fn put_byte(out: &mut [u8], at: usize, b: u8) -> usize
     at + 1
 }
 
-// A number's digits, at the end of ten places.
-#[derive(Clone, Copy)]
-struct Digits {
-    places: [u8; 10],
-    from: usize,
-}
-
-// Ten places for digits.
-fn no_digits() -> [u8; 10]
-    ensures { length result ≡ 10 }
-{
-    [48u8; 10]
-}
-
 // The digit of x below 10.
 fn digit(x: u32) -> u8
     requires { x < 10 }
     ensures { result ≡ 48 + x }
 {
-    48 + x as u8
+    b'0' + x as u8
 }
 
-// The decimal digits of x, the last one first stored.
-fn spell(x: u32) -> Digits
-    ensures { (length result.places ≡ 10) × (result.from < 10) × (drop result.from result.places ≡ decimal x) }
+// The decimal digits of x, the last one first stored, at the end of ten places.
+fn spell(x: u32, places: &mut [u8; 10]) -> &[u8]
+    ensures { (result.now ≡ decimal x) × (length result.now ≤ 10) }
 {
-    let mut places = no_digits();
     let mut from = 10;
     let mut rest = x;
+    // a while: it goes by what is left of the number, and by no index
     while rest > 9 {
         from -= 1;
         places[from] = digit(rest % 10);
@@ -63,7 +50,7 @@ fn spell(x: u32) -> Digits
     }
     from -= 1;
     places[from] = digit(rest);
-    Digits { places, from }
+    &places[from..]
 }
 
 // Writes a number in decimal, as put_bytes does.
@@ -71,10 +58,8 @@ fn put_number(out: &mut [u8], at: usize, x: u32) -> usize
     requires { at + 10 ≤ length out.old }
     ensures { Wrote out.old at out.new result (decimal x) × (result ≤ at + 10) }
 {
-    let d = spell(x);
-    let places = d.places;
-    let from = d.from;
-    put_bytes(out, at, &places[from..])
+    let mut places = [0u8; 10];
+    put_bytes(out, at, spell(x, &mut places))
 }
 
 // Writes numbers, a space before each.
@@ -83,11 +68,9 @@ fn put_numbers(out: &mut [u8], at: usize, numbers: &[u32]) -> usize
     ensures { Wrote out.old at out.new result (spaced numbers.now) × (result ≤ at + 11 * length numbers.now) }
 {
     let mut end = at;
-    let mut i = 0;
-    while i < numbers.len() {
+    for x in numbers {
         end = put_byte(out, end, b' ');
-        end = put_number(out, end, numbers[i]);
-        i += 1;
+        end = put_number(out, end, *x);
     }
     end
 }
@@ -139,76 +122,45 @@ fn put_resources(out: &mut [u8], at: usize, serves: &[u32; 17]) -> usize
     ensures { Wrote out.old at out.new result (resource_lines serves.now 16) × (result ≤ at + 496) }
 {
     let mut end = at;
-    let mut i = 0;
-    while i < 16 {
+    for i in 0..16 {
         end = put_resource(out, end, serves, i + 1);
-        i += 1;
     }
     end
 }
 
 // Writes the lines of n tasks, row by row.
-fn put_tasks(
-    out: &mut [u8],
-    at: usize,
-    n: usize,
-    processor: &[u32; 64],
-    d1: &[u32; 64],
-    section: &[u32; 64],
-    d2: &[u32; 64],
-) -> usize
+fn put_tasks(out: &mut [u8], at: usize, n: usize, p: &Plan) -> usize
     requires { (at + 3840 ≤ length out.old) × (n ≤ 64) }
-    ensures { Wrote out.old at out.new result (joined n (task_line processor.now d1.now section.now d2.now)) × (result ≤ at + 3840) }
+    ensures { Wrote out.old at out.new result (joined n (task_line p.now.processor p.now.d1 p.now.section p.now.d2)) × (result ≤ at + 3840) }
 {
     let mut end = at;
-    let mut k = 0;
-    while k < n {
-        let numbers = [k as u32 + 1, processor[k], d1[k], section[k], d2[k]];
+    for k in 0..n {
+        let (d1, section, d2) = (p.d1[k], p.section[k], p.d2[k]);
+        let numbers = [k as u32 + 1, p.processor[k], d1, section, d2];
         end = put_line(out, end, b"task", &numbers);
-        k += 1;
     }
     end
 }
 
-// Writes the text of a plan at the start.
-fn put_plan(
-    out: &mut [u8],
-    n: usize,
-    m: usize,
-    s: usize,
-    serves: &[u32; 17],
-    processor: &[u32; 64],
-    d1: &[u32; 64],
-    section: &[u32; 64],
-    d2: &[u32; 64],
-) -> usize
-    requires { (4374 ≤ length out.old) × (n ≤ 64) × (m ≤ 16) × (s ≤ 16) }
-    ensures { Wrote out.old 0 out.new result (plan_text n m s serves.now processor.now d1.now section.now d2.now) × (result ≤ 4374) }
+// Writes the text of a plan for n rows and m processors at the start.
+fn put_plan(out: &mut [u8], n: usize, m: usize, p: &Plan) -> usize
+    requires { (4374 ≤ length out.old) × (n ≤ 64) × (m ≤ 16) × (p.now.s ≤ 16) }
+    ensures { Wrote out.old 0 out.new result (plan_text n m p.now.s p.now.serves p.now.processor p.now.d1 p.now.section p.now.d2) × (result ≤ 4374) }
 {
-    let resources = put_plan_line(out, n, m, s);
-    let tasks = put_resources(out, resources, serves);
-    put_tasks(out, tasks, n, processor, d1, section, d2)
+    let resources = put_plan_line(out, n, m, p.s);
+    let tasks = put_resources(out, resources, &p.serves);
+    put_tasks(out, tasks, n, p)
 }
 
 // Plans the table that any bytes say: writes the plan's text, or why it is refused, at the start of out and answers its length.
 pub fn write_listing(bytes: &[u8], out: &mut [u8; 8192]) -> usize
     ensures { Wrote out.old 0 out.new result (listing_of (reading_of bytes.now)) × (result ≤ length out.new) }
 {
-    let r = table::read_table(bytes);
-    if r.number > 0 {
-        return put_refused(out, r.number, r.names, 0, 0);
+    match table::read_table(bytes) {
+        Err(e) => put_refused(out, e.number(), e.names(), 0, 0),
+        Ok(t) => match plan::plan_table(&t) {
+            Err(e) => put_refused(out, 11, e.row, e.mark.number(), e.value),
+            Ok(p) => put_plan(out, t.n, t.m, &p),
+        },
     }
-    let t = r.table;
-    let tried = plan::plan_table(t);
-    let outcome = tried.outcome;
-    if let Outcome::Failed(row, mark, value) = outcome {
-        return put_refused(out, 11, row, mark, value);
-    }
-    let p = tried.plan;
-    let serves = p.serves;
-    let processor = p.processor;
-    let d1 = p.d1;
-    let section = p.section;
-    let d2 = p.d2;
-    put_plan(out, t.n, t.m, p.s, &serves, &processor, &d1, &section, &d2)
 }

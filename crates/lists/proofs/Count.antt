@@ -1,6 +1,7 @@
 -- Counts, and the pigeonhole principle.
 use Prim.Native.Nat.{ℕ, zero, suc, ◌+◌, ◌-◌, ◌<◌, ◌≤◌, zero-le}
-use mathlib.Core.Path.{◌≡◌, refl}
+use mathlib.Core.Path.{◌≡◌, refl, ◌∙◌, ap}
+use mathlib.Core.List.{List}
 use mathlib.Core.Bool.{Bool, true, false, cond}
 use mathlib.Core.Logic.{dite}
 use native.Mathlib.Omega.{arith}
@@ -8,12 +9,23 @@ use native.Mathlib.Numerals.{add-one}
 use native.Mathlib.Decide.{dec_lt}
 use borrow.Author.Tests.{lt-ltb, le-ltb}
 use lib.Dec.{ltb}
+use lib.ListN.{length, get_or, take}
+use Rattle.std.specs.List.{count_by}
+use Rattle.std.proofs.lemmas.List.Sums.{sum_by_more}
 use Rattle.lists.specs.Count.{count}
 
 -- one number more is tested
 pub count_more : (k : ℕ) (p : ℕ → Bool) → count (k + 1) p ≡ count k p + cond (p k) 1 0
 unfolding count
 count_more k p = rw add-one
+
+-- of the first n numbers of a list, those that pass
+pub counted : (p : ℕ → Bool) (xs : List ℕ) (n : ℕ) → n ≤ length xs → count_by p (take n xs) ≡ count n (λ k. p (get_or xs k 0))
+unfolding count
+counted p xs zero h = refl
+counted p xs (suc n) h =
+    let e = sum_by_more (λ x. cond (p x) 1 0) xs n 0 (omega arith) in
+    (rw add-one at e) ∙ ap (λ (k : ℕ). k + cond (p (get_or xs n 0)) 1 0) (counted p xs n (omega arith))
 
 -- tests that agree below n count the same
 pub count_ext : (n : ℕ) (p q : ℕ → Bool) → ((j : ℕ) → j < n → p j ≡ q j) → count n p ≡ count n q

@@ -2,44 +2,30 @@
 // filled from, and a few small functions.
 #![tactic(auto)]
 
-ghost use Rattle.std.specs.Prelude.{◌≡◌, cond, ◌+◌, ◌≤◌, min, length};
+ghost use Rattle.std.specs.Prelude.{◌≡◌, ◌+◌, ◌≤◌, min, length};
 ghost use Rattle.std.proofs.lemmas.List.Edits.{sets};
-ghost use Rattle.lists.specs.Tab.{blank};
+ghost use Rattle.lists.specs.Tab.{blank as blank_lem};
 
-// 64 places, one for each row a table can have, with 0 at each.
-pub fn no_column() -> [u32; 64]
-    ensures { result ≡ blank 64 0 }
+// N places with x at each: 64, one for each row that a table can have, 17, one for each resource or processor at its number, and so on.
+#[tactic(auto, unfolding(crate::specs::Tab::blank))]
+pub fn blank<const N: usize>(x: u32) -> [u32; N]
+    ensures { result ≡ blank_lem N x }
 {
-    [0u32; 64]
-}
-
-// 17 places, one for each resource or processor at its number, with 0 at each.
-pub fn no_numbered() -> [u32; 17]
-    ensures { result ≡ blank 17 0 }
-{
-    [0u32; 17]
-}
-
-// A flag as a number.
-pub fn one_if(b: bool) -> u32
-    ensures { (result ≡ cond b 1 0) × (result ≤ 1) }
-{
-    if b { 1 } else { 0 }
+    [x; N]
 }
 
 // The smaller of two numbers.
 pub fn smaller(x: u32, y: u32) -> u32
     ensures { result ≡ min x y }
 {
-    if x < y { x } else { y }
+    x.min(y)
 }
 
 // Stores bytes from place at of a buffer on.
+#[tactic(auto, using(crate::proofs::Sets::sets_mid))]
 pub fn store(out: &mut [u8], at: usize, bytes: &[u8])
     requires { at + length bytes.now ≤ length out.old }
     ensures { out.new ≡ sets out.old at bytes.now }
 {
-    for k in 0..bytes.len() {
-        out[at + k] = bytes[k];
-    }
+    out[at..at + bytes.len()].copy_from_slice(bytes);
 }

@@ -3,19 +3,19 @@ use Prim.Native.Nat.{ℕ, zero, suc, ◌+◌, ◌-◌, ◌*◌, ◌≤◌, ◌<�
 use mathlib.Core.Path.{◌≡◌, refl, sym, ◌∙◌, ap}
 use mathlib.Core.Bool.{Bool, true, false, cond, ◌&&◌}
 use mathlib.Core.List.{List, ◌++◌}
-use mathlib.Core.Option.{Option, none, some}
+use Rattle.std.specs.Prelude.{Option, Some, None, is_some}
 use mathlib.Core.Logic.{dite}
 use native.Mathlib.Omega.{arith}
 use native.Mathlib.Numerals.{add-one}
 use native.Mathlib.Nat.{add-zero}
 use native.Mathlib.Decide.{dec_lt, ℕ_discrete}
 use borrow.Author.Count.{below_more}
-use borrow.Author.Tests.{ltb-true, lt-ltb, le-ltb, ne_eqb}
+use borrow.Author.Tests.{lt-ltb, le-ltb, ne_eqb}
+use mir.Val.{bool_byte}
 use lib.Dec.{ltb}
 use lib.ListN.{length, get_or, set, drop, replicate, length-set, length-drop, length-replicate, get_or-replicate}
 use lib.Seq.{get_or-set_same, get_or-set_other, set-get_or, get_or-drop, ext_get_or}
 use Rattle.lists.specs.Tab.{tab, filled}
-use Rattle.lists.proofs.Tests.{both}
 use Rattle.lists.proofs.First.{first_is, first_none, first-le}
 use Rattle.arrivals.specs.declared.Arrival.{Arrival}
 use Rattle.arrivals.specs.Arrival.{arrival_at, lens_of, is_of, brings}
@@ -32,9 +32,18 @@ use Rattle.machine.specs.Tick.{Arrivals, releases, late_row}
 use Rattle.machine.specs.Good.{Dues, Held, Coming}
 use Rattle.machine.proofs.Served.{get_or-next, write_next}
 
--- an arrival that came stands in the list
-pub stands : (came b : Bool) (at count : ℕ) → came ≡ (ltb at count && b) → came ≡ true → at < count
-stands came b at count e h = ltb-true at count (both (ltb at count) b (sym e ∙ h)).0
+-- what the arrival at place `at` brings, if it is the one of row i at tick t
+abbrev pub arrives : List Arrival → ℕ → ℕ → ℕ → Option (List ℕ)
+arrives xs i t at = cond (ltb at (length xs) && is_of xs i t at) (Some (lens_of (arrival_at xs at))) None
+
+-- whether it is
+whether_of : (b : Bool) (ls : List ℕ) → is_some (cond b (Some ls) None) ≡ b
+whether_of true ls = refl
+whether_of false ls = refl
+
+counted_as : (b : Bool) → bool_byte b ≡ cond b 1 0
+counted_as true = refl
+counted_as false = refl
 
 -- the first late row is at most n
 pub late-le : (n : ℕ) (bounds : List ℕ) (ar : Arrivals) (t : ℕ) (js : List Job) → late_row n bounds ar t js ≤ n
@@ -80,45 +89,45 @@ module _ {n next t : ℕ} {bounds start dues₀ : List ℕ} {xs : List Arrival} 
     pub good_here : GoodJob (job_in flat i) × Small t (job_in flat i)
     good_here = rw waits (held.good i h)
 
-    module _ (came : Bool) (here : came ≡ (ltb at (length xs) && is_of xs i t at)) where
-      -- what comes to the row
-      abbrev gets : Option (List ℕ)
-      gets = cond came (some (lens_of (arrival_at xs at))) none
-
+    module _ (came : Option (List ℕ)) (here : came ≡ arrives xs i t at) where
       -- it is what the arrival of the row brings
-      brought : gets ≡ brings xs i t
-      brought = ap (λ (b : Bool). cond b (some (lens_of (arrival_at xs at))) none) here ∙ seek_comes n _ _ _ _ xs coming.good held.few at i t (omega (arith, held.few)) w.seek
+      brought : came ≡ brings xs i t
+      brought = here ∙ seek_comes n _ _ _ _ xs coming.good held.few at i t (omega (arith, held.few)) w.seek
 
       -- and is late where the row is
-      late_here : late bounds i t (job_in flat i) gets ≡ behind bounds xs t start i
+      late_here : late bounds i t (job_in flat i) came ≡ behind bounds xs t start i
       late_here = rw (waits, brought)
 
       -- the row is the first with a release that comes too early
-      pub is_late_lem : true ≡ late bounds i t (job_in flat i) gets → i ≡ late_row n bounds (brings xs) t (jobs_in start)
+      pub is_late_lem : true ≡ late bounds i t (job_in flat i) came → i ≡ late_row n bounds (brings xs) t (jobs_in start)
       unfolding late_row
       is_late_lem l = sym (first_is n (behind bounds xs t start) i h w.on_time (sym (l ∙ late_here)))
 
+      -- whether one came is whether the arrival there is the row's
+      whether : is_some came ≡ (ltb at (length xs) && is_of xs i t at)
+      whether = ap is_some here ∙ whether_of _ _
+
       -- or there is one row more
-      pub goes_on : (flat₁ dues₁ : List ℕ) → length flat₁ ≡ 576 → jobs_in flat₁ ≡ set (jobs_in flat) i (released bounds i t (job_in flat i) gets) → dues₁ ≡ set dues i (due_of bounds i (released bounds i t (job_in flat i) gets)) → false ≡ late bounds i t (job_in flat i) gets → WentOn bounds xs t start n (i + 1) flat₁ dues₁ (at + cond came 1 0)
+      pub goes_on : (flat₁ dues₁ : List ℕ) → length flat₁ ≡ 576 → jobs_in flat₁ ≡ set (jobs_in flat) i (released bounds i t (job_in flat i) came) → dues₁ ≡ set dues i (due_of bounds i (released bounds i t (job_in flat i) came)) → false ≡ late bounds i t (job_in flat i) came → WentOn bounds xs t start n (i + 1) flat₁ dues₁ (at + bool_byte (is_some came))
       goes_on flat₁ dues₁ size e f l =
-          let x : Job = released bounds i t (job_in flat i) gets in
+          let x : Job = released bounds i t (job_in flat i) came in
           record {
             whole = size;
             column = rw f (simp length-set w.column);
             jobs = e ∙ write_next (after bounds xs t start) (jobs_in start) i (jobs_in flat) w.jobs no_job x (omega (arith, held.few, length-jobs start)) (rw (waits, brought));
             dues_are = rw (e, f) (dues_set n bounds (jobs_in flat) dues (omega (arith, held.few, length-jobs flat)) (omega (arith, held.few, w.column)) w.dues_are i x);
-            seek = rw (add-one i, here) (seek_next n _ _ _ _ xs coming.good held.few at i t (omega (arith, held.few)) w.seek);
+            seek = rw (add-one i, counted_as, whether) (seek_next n _ _ _ _ xs coming.good held.few at i t (omega (arith, held.few)) w.seek);
             on_time = below_more (λ k. behind bounds xs t start k ≡ false) i w.on_time (sym (l ∙ late_here));
           }
 
     -- which stays as it is, where nothing comes and its next release is not due yet
-    pub stays : false ≡ (ltb at (length xs) && is_of xs i t at) → t < get_or dues i 0 → WentOn bounds xs t start n (i + 1) flat dues at
+    pub stays : None ≡ arrives xs i t at → t < get_or dues i 0 → WentOn bounds xs t start n (i + 1) flat dues at
     stays here l =
         let x = jobs_at_lem flat i (omega (arith, held.few)) in
         let d : t < due_of bounds i (job_in flat i) = rw (w.dues_are i h, x) at l in
         let same = released_before bounds i t (job_in flat i) d in
         rw (add-zero at)
-        at (goes_on false here flat dues w.whole
+        at (goes_on None here flat dues w.whole
         (sym (set-get_or (jobs_in flat) i no_job) ∙ rw (same, x))
         (sym (set-get_or dues i 0) ∙ rw (same, w.dues_are i h, x))
         (sym (late_before bounds i t (job_in flat i) d)))
@@ -129,7 +138,7 @@ module _ {n next t : ℕ} {bounds start dues₀ : List ℕ} {xs : List Arrival} 
   all_stay due ahead zero h = started
   all_stay due ahead (suc i) h = rw (add-one i) at (stays (all_stay due ahead i (omega arith)) (omega arith) none_comes (due i (omega arith)))
     where
-      none_comes : false ≡ (ltb next (length xs) && is_of xs i t next)
+      none_comes : None ≡ arrives xs i t next
       none_comes =
           dite (dec_lt next (length xs))
           (λ l. rw (ne_eqb (arrival_at xs next).tick t (λ e. omega (arith, ahead l)), lt-ltb next (length xs) l))
@@ -137,15 +146,13 @@ module _ {n next t : ℕ} {bounds start dues₀ : List ℕ} {xs : List Arrival} 
 
   -- all rows have their releases
   pub all_in : {flat dues : List ℕ} {at : ℕ} → WentOn bounds xs t start n n flat dues at →
-      (n ≡ late_row n bounds (brings xs) t (jobs_in start)) × (n ≡ n → (jobs_in flat ≡ releases n bounds (brings xs) t (jobs_in start)) × Dues n bounds (jobs_in flat) dues × Coming n xs at (suc t))
+      (late_row n bounds (brings xs) t (jobs_in start) ≡ n) × (jobs_in flat ≡ releases n bounds (brings xs) t (jobs_in start)) × Dues n bounds (jobs_in flat) dues × Coming n xs at (suc t)
   unfolding late_row releases filled
   all_in {at = at} w = (
-    sym (first_none n (behind bounds xs t start) w.on_time),
-    λ e. (
-      w.jobs ∙ ap (λ (ys : List Job). tab n (after bounds xs t start) ++ ys) none_past,
-      w.dues_are,
-      record { periods = _; c1s = _; secs = _; c2s = _; good = coming.good; few = coming.few; seek = seek_tick n _ _ _ _ xs coming.good held.few at t w.seek },
-    ),
+    first_none n (behind bounds xs t start) w.on_time,
+    w.jobs ∙ ap (λ (ys : List Job). tab n (after bounds xs t start) ++ ys) none_past,
+    w.dues_are,
+    record { periods = _; c1s = _; secs = _; c2s = _; good = coming.good; few = coming.few; seek = seek_tick n _ _ _ _ xs coming.good held.few at t w.seek },
   )
     where
       none_past : drop n (jobs_in start) ≡ replicate (64 - n) no_job

@@ -3,7 +3,7 @@ use Prim.Native.Nat.{ℕ, zero, suc, ◌+◌, ◌≤◌}
 use mathlib.Core.Path.{◌≡◌, refl, ap}
 use mathlib.Core.Bool.{Bool, true, false, cond}
 use mathlib.Core.List.{List}
-use mathlib.Core.Option.{Option, none, some}
+use Rattle.std.specs.Prelude.{Option, Some, None}
 use native.Mathlib.Omega.{arith}
 use borrow.Author.Tests.{not-false}
 use lib.Dec.{leb}
@@ -68,14 +68,14 @@ module _ (bounds : List ℕ) (i t : ℕ) where
     sound_wake s =
         record {
           good = good_wake bounds i t x s.good;
-          left = left_released bounds i t x s.left none;
+          left = left_released bounds i t x s.left None;
           long = wake_cases bounds i t (λ y. HasLength y.lens y.place) x s.long (λ u j e. long_enter x.arrived _ j x.lens);
           whole = rw (lens_wake bounds i t x) s.whole;
           section = rw (lens_wake bounds i t x) s.section;
         }
 
     -- the job of an arrival is;
-    sound_arrival : (ls : List ℕ) → Fits a t ls → Sound a (admit bounds i t x (some ls))
+    sound_arrival : (ls : List ℕ) → Fits a t ls → Sound a (admit bounds i t x (Some ls))
     unfolding admit moved
     sound_arrival ls f =
         record {
@@ -101,20 +101,20 @@ module _ (bounds : List ℕ) (i t : ℕ) where
 
 -- what is added where an arrival brings these lengths, or none comes
 abbrev pub added : (List ℕ → ℕ) → Option (List ℕ) → ℕ
-added adds none = 0
-added adds (some ls) = adds ls
+added adds None = 0
+added adds (Some ls) = adds ls
 
 module _ (bounds : List ℕ) (i t a : ℕ) (x : Job) (s : Sound a x) where
   -- once the releases of the tick are in
-  module _ (came : Option (List ℕ)) (fits : (ls : List ℕ) → came ≡ some ls → Fits a t ls) where
+  module _ (came : Option (List ℕ)) (fits : (ls : List ℕ) → came ≡ Some ls → Fits a t ls) where
     -- it is sound,
     pub sound_released : Sound a (released bounds i t x came)
     unfolding admit
     sound_released = go came refl
       where
         go : (o : Option (List ℕ)) → came ≡ o → Sound a (released bounds i t x o)
-        go none e = sound_wake bounds i t a x s
-        go (some ls) e = sound_arrival bounds i t a (wake bounds i t x) ls (fits ls e)
+        go None e = sound_wake bounds i t a x s
+        go (Some ls) e = sound_arrival bounds i t a (wake bounds i t x) ls (fits ls e)
 
     -- they add what an arrival adds: it comes to an idle task, or it is late
     pub released_count : (count : Job → ℕ) (adds : List ℕ → ℕ) → Counted count adds → late bounds i t x came ≡ false → count (released bounds i t x came) ≡ count x + added adds came
@@ -122,8 +122,8 @@ module _ (bounds : List ℕ) (i t a : ℕ) (x : Job) (s : Sound a x) where
     released_count count adds law = go came refl
       where
         go : (o : Option (List ℕ)) → came ≡ o → late bounds i t x o ≡ false → count (released bounds i t x o) ≡ count x + added adds o
-        go none e h = omega (arith, law.woken bounds i t x s.good s.whole)
-        go (some ls) e h =
+        go None e h = omega (arith, law.woken bounds i t x s.good s.whole)
+        go (Some ls) e h =
             omega (arith, law.woken bounds i t x s.good s.whole, law.admitted bounds i t (wake bounds i t x) ls (not-false _ (neither _ _ h).0) (lens_none 3 ls (omega (arith, (fits ls e).three))))
 
   -- after the units of the tick

@@ -13,11 +13,16 @@ use Rattle.chain.specs.declared.Job.{Job}
 use Rattle.chain.specs.Job.{job_at}
 use Rattle.machine.specs.Tick.{kind_of, byte_of}
 use Rattle.lists.specs.Total.{total}
+use Rattle.chain.specs.Owed.{owes}
+use Rattle.machine.specs.Counts.{Tally, tally_of}
 
 -- one job more is counted
-pub total_more : (g : Job → ℕ) (js : List Job) (i a : ℕ) → a ≡ total i (λ k. g (job_at js k)) → a + g (job_at js i) ≡ total (i + 1) (λ k. g (job_at js k))
-unfolding total
-total_more g js i a e = rw (add-one i, e)
+abbrev pub counted : Tally → Job → Tally
+counted t x = record { jobs = t.jobs + x.ended; run = t.run + x.ran; owed = t.owed + owes x.lens x.place }
+
+pub tally_more : (js : List Job) (i : ℕ) (x : Job) (t : Tally) → x ≡ job_at js i → t ≡ tally_of i js → counted t x ≡ tally_of (i + 1) js
+unfolding tally_of total
+tally_more js i x t e f = rw (e, f, add-one i) refl
 
 -- the byte of a processor that runs nothing, and of one that runs a row
 pub byte_none : (js : List Job) (row : ℕ) → row ≤ 0 → 0 ≡ byte_of js row

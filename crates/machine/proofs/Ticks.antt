@@ -3,7 +3,7 @@ use Prim.Native.Nat.{ℕ, zero, suc, ◌+◌, ◌≤◌, ◌<◌}
 use mathlib.Core.Path.{◌≡◌, ◌∙◌, ap}
 use mathlib.Core.Bool.{false}
 use mathlib.Core.List.{List}
-use mathlib.Core.Option.{some}
+use Rattle.std.specs.Prelude.{Some}
 use native.Mathlib.Omega.{arith}
 use lib.ListN.{get_or}
 use Rattle.lists.proofs.Tab.{get_or-blank}
@@ -40,7 +40,7 @@ module _ (c : Chart) (ar : Arrivals) (t i : ℕ) (l : i < c.n) where
 
 module _ (c : Chart) (periods c1s secs c2s : List ℕ) (xs : List Arrival) (good : GoodArrivals c.n periods c1s secs c2s xs) where
   -- what a good list brings keeps to the table
-  fits : (i t : ℕ) (ls : List ℕ) → brings xs i t ≡ some ls → Fits (get_or secs i 0) t ls
+  fits : (i t : ℕ) (ls : List ℕ) → brings xs i t ≡ Some ls → Fits (get_or secs i 0) t ls
   fits i t ls e =
       let b = brings_fits c.n periods c1s secs c2s xs good i t ls e in
       record { tick = omega (arith, b.tick); three = b.three; section = b.len2 }

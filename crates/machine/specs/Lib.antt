@@ -2,3 +2,4 @@ pub mod Chart
 pub mod Tick
 pub mod Counts
 pub mod Good
+pub mod Start

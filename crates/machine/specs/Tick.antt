@@ -1,7 +1,6 @@
 -- The machine: "In each tick: due releases of jobs already there, then arrivals, then releases that an arrival makes due at once;
 -- then each processor runs one unit."
-use Rattle.std.specs.Prelude.{ℕ, zero, suc, ◌+◌, ◌*◌, max, cond, List, get_or, set, ltb, eqb}
-use Rattle.std.proofs.Math.Option.{Option}
+use Rattle.std.specs.Prelude.{ℕ, zero, suc, ◌+◌, ◌*◌, max, cond, List, get_or, set, ltb, eqb, Option}
 use Rattle.lists.specs.Tab.{tab, blank, filled}
 use Rattle.lists.specs.First.{first}
 use Rattle.chain.specs.declared.Place.{Place}

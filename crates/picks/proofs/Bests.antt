@@ -10,7 +10,7 @@ use lib.Dec.{ltb}
 use Rattle.lists.proofs.Tests.{not_both, both}
 use Rattle.picks.specs.Best.{beat, best, every}
 use Rattle.picks.specs.Pick.{gtb}
-use Rattle.picks.specs.Offer.{Best, against, key_of, best_of, lowest}
+use Rattle.picks.specs.Offer.{against, with_key, best_of, lowest}
 
 -- what holds below n and at n holds below its successor
 below_suc : (P : ℕ → Type 0) (n : ℕ) → ((i : ℕ) → i < n → P i) → P n → (i : ℕ) → i < suc n → P i
@@ -73,24 +73,21 @@ module _ (ahead : ℕ → ℕ → Bool) (test : ℕ → Bool) (key : ℕ → ℕ
   best_first ord n x e = (rw e at (best_is ord n)).2
 
   -- a row that fails changes nothing
-  pub best_skip : (none i : ℕ) → test i ≡ false → best_of ahead none test key (i + 1) ≡ best_of ahead none test key i
+  pub best_skip : (i : ℕ) → test i ≡ false → best_of ahead test key (i + 1) ≡ best_of ahead test key i
   unfolding best
-  best_skip none i h = rw (add-one, h)
+  best_skip i h = rw (add-one, h)
 
   -- a row that passes is set against the best so far; where there is none it is the first
-  pub best_more : (none i : ℕ) → test i ≡ true → ahead (key i) none ≡ true → best_of ahead none test key (i + 1) ≡ against ahead (best_of ahead none test key i) i (key i)
-  unfolding best beat key_of
-  best_more none i h first = rw (add-one, h) (go (best ahead test key i))
+  pub best_more : (i : ℕ) → test i ≡ true → best_of ahead test key (i + 1) ≡ against ahead (best_of ahead test key i) i (key i)
+  unfolding best beat with_key against
+  best_more i h = rw (add-one, h) (go (best ahead test key i))
     where
-      held : ℕ → Best
-      held b = record { row = b; key = key_of none key b }
-
-      met : (x : ℕ) (w : Bool) → held (cond w (suc i) (suc x)) ≡ cond w (held (suc i)) (held (suc x))
+      met : (x : ℕ) (w : Bool) → with_key key (cond w (suc i) (suc x)) ≡ cond w (with_key key (suc i)) (with_key key (suc x))
       met x true = refl
       met x false = refl
 
-      go : (b : ℕ) → held (beat ahead key i b) ≡ against ahead (held b) i (key i)
-      go zero = rw first
+      go : (b : ℕ) → with_key key (beat ahead key i b) ≡ against ahead (with_key key b) i (key i)
+      go zero = refl
       go (suc x) = met x (ahead (key i) (key x))
 
 -- tests that agree, and keys that agree where they pass, have the same best row

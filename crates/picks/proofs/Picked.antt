@@ -1,7 +1,7 @@
 -- What a processor runs, in the paper's words, and what the choice depends on.
 use Prim.Native.Nat.{ℕ, zero, suc, ◌<◌}
 use mathlib.Core.Path.{◌≡◌, refl, sym, ◌∙◌, ap}
-use mathlib.Core.Bool.{Bool, true, false, not, ◌&&◌, ◌||◌, or-true}
+use mathlib.Core.Bool.{Bool, true, false, cond, not, ◌&&◌, ◌||◌, or-true}
 use mathlib.Core.List.{List}
 use native.Mathlib.Omega.{arith}
 use borrow.Author.Tests.{ltb-false, lt-ltb, eqb-true, eqb-false}
@@ -13,7 +13,7 @@ use Rattle.chain.specs.declared.Place.TheVariants.{Idle, Waiting, Running}
 use Rattle.chain.specs.declared.Job.{Job}
 use Rattle.chain.specs.Job.{job_at}
 use Rattle.picks.specs.Pick.{gtb, home, section_on, stage_on, chosen, waits, holds, ready, first_on, last_on, stage_for, clear, pick}
-use Rattle.picks.specs.Offer.{Best, key_of, lowest, Offered}
+use Rattle.picks.specs.Offer.{Offer, with_key, lowest, choice, Offered}
 use Rattle.picks.proofs.Cases.{clear_told}
 use Rattle.picks.proofs.Bests.{smaller_first, larger_first, best_passes, best_none, best_same, every_all, every_same, below_lowest}
 
@@ -149,17 +149,19 @@ module _ (homes ranks tops : List ℕ) (n : ℕ) (js : List Job) (q : ℕ) where
     npp_best_starts x d e = starts_free x e d
 
   -- the pick is what `choose` gives for what the processor has to choose from
-  pub pick_is : ((i : ℕ) → i < n → get_or ranks i 0 < 64) → {first last stage : Best} {held : ℕ} → Offered homes ranks tops js n first last stage held q
-      → chosen first.row last.row stage.row (ltb first.key held) ≡ pick homes ranks tops n js q
-  unfolding pick first_on last_on stage_for clear chosen key_of
-  pick_is ranked o = rw (o.first_is, o.last_is, o.stage_is, o.held_is) (go (first_on homes ranks tops n js q) refl (last_on homes ranks tops n js q))
+  pub pick_is : ((i : ℕ) → i < n → get_or ranks i 0 < 64) → (o : Offer) → Offered homes ranks tops js n o q → choice o.first o.last o.stage o.held ≡ pick homes ranks tops n js q
+  unfolding pick first_on last_on stage_for clear chosen with_key choice
+  pick_is ranked o was = rw (was.first_is, was.last_is, was.stage_is, was.held_is) (go (first_on homes ranks tops n js q) refl (last_on homes ranks tops n js q) (stage_for homes ranks tops n js q))
     where
-      go : (f : ℕ) → first_on homes ranks tops n js q ≡ f → (y : ℕ)
-          → chosen f y (stage_for homes ranks tops n js q) (ltb (key_of 64 (λ i. get_or ranks i 0) f) (lowest (holds homes ranks tops n js q) (λ i. get_or tops i 0) n))
-          ≡ chosen f y (stage_for homes ranks tops n js q) (clear homes ranks tops n js q f)
-      go zero e zero = refl
-      go zero e (suc y) = refl
-      go (suc x) e y = ap (chosen (suc x) y (stage_for homes ranks tops n js q)) (below_lowest _ _ (get_or ranks x 0) (ranked x (best_passes ltb _ _ smaller_first n x e).0) n)
+      go : (f : ℕ) → first_on homes ranks tops n js q ≡ f → (y s : ℕ)
+          → choice (with_key (λ i. get_or ranks i 0) f) (with_key (λ i. (job_at js i).begun) y) (with_key (λ i. get_or ranks i 0) s) (lowest (holds homes ranks tops n js q) (λ i. get_or tops i 0) n)
+          ≡ chosen f y s (clear homes ranks tops n js q f)
+      go zero e zero zero = refl
+      go zero e zero (suc s) = refl
+      go zero e (suc y) s = refl
+      go (suc x) e zero s = refl
+      go (suc x) e (suc y) s =
+          ap (λ (b : Bool). cond b (suc x) (suc y)) (below_lowest _ _ (get_or ranks x 0) (ranked x (best_passes ltb _ _ smaller_first n x e).0) n)
 
 -- the places of row i are on processor q alike, and the section there is begun alike
 pub record Alike (homes : List ℕ) (q : ℕ) (js ks : List Job) (i : ℕ) : Type 0 where

@@ -1,37 +1,47 @@
 -- The best rows of a processor, each with its key.
-use Rattle.std.specs.Prelude.{ℕ, zero, suc, min, ◌≡◌, Bool, cond, List, get_or, ltb}
+use Rattle.std.specs.Prelude.{ℕ, zero, suc, min, ◌≡◌, Bool, cond, List, get_or, ltb, Option, Some, None}
 use Rattle.chain.specs.declared.Job.{Job}
 use Rattle.chain.specs.Job.{job_at}
 use Rattle.picks.specs.Best.{best}
 use Rattle.picks.specs.Pick.{gtb, waits, holds, ready}
 pub use Rattle.picks.specs.declared.Best.{Best}
+pub use Rattle.picks.specs.declared.Offer.{Offer}
 
--- no row, with a key behind those of all rows
-abbrev pub nobody : ℕ → Best
-nobody none = record { row = 0; key = none }
+-- row i in place of the best so far, if there is one, where its key comes first
+unfoldable pub against : (ℕ → ℕ → Bool) → Option Best → ℕ → ℕ → Option Best
+against ahead None i k = Some (record { row = suc i; key = k })
+against ahead (Some b) i k = cond (ahead k b.key) (Some (record { row = suc i; key = k })) (Some b)
 
--- row i in place of the best so far where its key comes first
-abbrev pub against : (ℕ → ℕ → Bool) → Best → ℕ → ℕ → Best
-against ahead b i k = cond (ahead k b.key) (record { row = suc i; key = k }) b
+-- a row with its key; 0 is none
+unfoldable pub with_key : (ℕ → ℕ) → ℕ → Option Best
+with_key key zero = None
+with_key key (suc x) = Some (record { row = suc x; key = key x })
 
--- the key of a row; that of none is given
-unfoldable pub key_of : ℕ → (ℕ → ℕ) → ℕ → ℕ
-key_of none key zero = none
-key_of none key (suc x) = key x
-
--- the best row with its key; `none` is the key of none
-abbrev pub best_of : (ℕ → ℕ → Bool) → ℕ → (ℕ → Bool) → (ℕ → ℕ) → ℕ → Best
-best_of ahead none test key n = record { row = best ahead test key n; key = key_of none key (best ahead test key n) }
+-- the best row with its key
+abbrev pub best_of : (ℕ → ℕ → Bool) → (ℕ → Bool) → (ℕ → ℕ) → ℕ → Option Best
+best_of ahead test key n = with_key key (best ahead test key n)
 
 -- the best ceiling held, of the first n rows; 64, behind all ranks, if nothing is held
 unfoldable pub lowest : (ℕ → Bool) → (ℕ → ℕ) → ℕ → ℕ
 lowest test key zero = 64
 lowest test key (suc i) = cond (test i) (min (key i) (lowest test key i)) (lowest test key i)
 
+-- what stands for a processor that there is not
+abbrev pub no_offer : Offer
+no_offer = record { first = None; last = None; stage = None; held = 0 }
+
+-- which of the two sections runs, the best not yet begun or the one begun last; a stage only where there is none
+unfoldable pub choice : Option Best → Option Best → Option Best → ℕ → ℕ
+choice None None None held = 0
+choice None None (Some s) held = s.row
+choice None (Some l) stage held = l.row
+choice (Some f) None stage held = f.row
+choice (Some f) (Some l) stage held = cond (ltb f.key held) f.row l.row
+
 module _ (homes ranks tops : List ℕ) (js : List Job) (n : ℕ) where
   -- what processor q has to choose from: the best section not yet begun, the one begun last, the best stage, and the best ceiling held
-  pub record Offered (first last stage : Best) (held q : ℕ) : Type 0 where
-    pub first_is : first ≡ best_of ltb 64 (waits homes ranks tops n js q) (λ i. get_or ranks i 0) n
-    pub last_is : last ≡ best_of gtb 0 (holds homes ranks tops n js q) (λ i. (job_at js i).begun) n
-    pub stage_is : stage ≡ best_of ltb 64 (ready homes ranks tops n js q) (λ i. get_or ranks i 0) n
-    pub held_is : held ≡ lowest (holds homes ranks tops n js q) (λ i. get_or tops i 0) n
+  pub record Offered (o : Offer) (q : ℕ) : Type 0 where
+    pub first_is : o.first ≡ best_of ltb (waits homes ranks tops n js q) (λ i. get_or ranks i 0) n
+    pub last_is : o.last ≡ best_of gtb (holds homes ranks tops n js q) (λ i. (job_at js i).begun) n
+    pub stage_is : o.stage ≡ best_of ltb (ready homes ranks tops n js q) (λ i. get_or ranks i 0) n
+    pub held_is : o.held ≡ lowest (holds homes ranks tops n js q) (λ i. get_or tops i 0) n

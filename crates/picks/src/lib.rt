@@ -1,58 +1,44 @@
 // What each processor runs in a tick, from one pass over the rows.
 #![tactic(auto)]
 
-ghost use Rattle.std.specs.Prelude.{◌≡◌, ℕ, ◌<◌, ◌≤◌, length, get_or, ltb};
+ghost use Rattle.std.specs.Prelude.{◌≡◌, ℕ, ◌<◌, ◌≤◌, Bool, Option, get_or};
 ghost use Rattle.lists.specs.Tab.{tab};
 ghost use Rattle.jobs.specs.Numbers.{jobs_in};
-ghost use Rattle.picks.specs.Pick.{gtb, home, chosen, pick};
-ghost use Rattle.picks.specs.Offer.{nobody, against, Offered};
+ghost use Rattle.picks.specs.Pick.{home, pick};
+ghost use Rattle.picks.specs.Offer.{no_offer, against as against_lem, choice, Offered};
 ghost use Rattle.picks.specs.Good.{GoodHomes, GoodPlaces};
 
 use chain::Place;
 
-// A row, numbered from 1, and its key; row 0 is none.
-#[derive(Clone, Copy)]
+// A row, numbered from 1, and its key.
+#[derive(Clone, Copy, Debug, PartialEq, Eq)]
 struct Best {
     row: u32,
     key: u32,
 }
 
-// For each processor, at its number: the best section not yet begun, the section begun last, the best stage, and the best
-// ceiling held.
-#[derive(Clone, Copy)]
-struct Offers {
-    first: [Best; 17],
-    last: [Best; 17],
-    stage: [Best; 17],
-    held: [u32; 17],
+// What a processor has to choose from: the best section not yet begun, the section begun last, the best stage, and the best
+// ceiling held, 64 if nothing is held: no Option, since a ceiling of 64 means none everywhere (rank: Ceiling).
+#[derive(Clone, Copy, Debug, PartialEq, Eq)]
+struct Offer {
+    first: Option<Best>,
+    last: Option<Best>,
+    stage: Option<Best>,
+    held: u32,
 }
 
-// Row i in place of the best so far, if its key is smaller.
-fn smaller_key(b: Best, i: usize, key: u32) -> Best
-    requires { i < 64 }
-    ensures { result ≡ against ltb b i key }
+// Row i in place of the best so far, if there is one, where its key comes first.
+fn against<F: Fn(u32, u32) -> bool>(b: Option<Best>, i: usize, key: u32, ahead: F) -> Option<Best>
+    requires { (i < 64) × F.IsAlwaysCallable ahead }
+    ensures { (order : ℕ → ℕ → Bool) → ((k : ℕ) → k < 4294967296 → (r : Bool) → F.post ahead key k r → r ≡ order key k) → result ≡ against_lem order b i key }
 {
-    if key < b.key {
-        return Best {
+    match b {
+        Some(best) if !ahead(key, best.key) => b,
+        _ => Some(Best {
             row: i as u32 + 1,
             key,
-        };
+        }),
     }
-    b
-}
-
-// Row i in place of the best so far, if its key is larger.
-fn larger_key(b: Best, i: usize, key: u32) -> Best
-    requires { i < 64 }
-    ensures { result ≡ against gtb b i key }
-{
-    if key > b.key {
-        return Best {
-            row: i as u32 + 1,
-            key,
-        };
-    }
-    b
 }
 
 // The processor of a part of row i.
@@ -63,88 +49,79 @@ fn home_of(homes: &[u32; 192], i: usize, part: u32) -> usize
     homes[3 * i + part as usize] as usize
 }
 
-// What each processor has to choose from.
+// What each processor has to choose from, at the processor's number.
 fn look_over(
-    jobs: &[u32],
+    jobs: &[u32; 576],
     homes: &[u32; 192],
     rank: &[u32; 64],
     top: &[u32; 64],
     n: usize,
-) -> Offers
-    requires { (length jobs.now ≡ 576) × GoodHomes homes.now rank.now n × GoodPlaces (jobs_in jobs.now) n }
-    ensures { (q : ℕ) → q < 17 → Offered homes.now rank.now top.now (jobs_in jobs.now) n (get_or result.first q (nobody 0)) (get_or result.last q (nobody 0)) (get_or result.stage q (nobody 0)) (get_or result.held q 0) q }
+) -> [Offer; 17]
+    requires { GoodHomes homes.now rank.now n × GoodPlaces (jobs_in jobs.now) n }
+    ensures { (q : ℕ) → q < 17 → Offered homes.now rank.now top.now (jobs_in jobs.now) n (get_or result q no_offer) q }
 {
-    let none = Best { row: 0, key: 64 };
-    let unbegun = Best { row: 0, key: 0 };
-    let mut first = [none; 17];
-    let mut last = [unbegun; 17];
-    let mut stage = [none; 17];
-    let mut held = [64u32; 17];
+    let none = Offer {
+        first: None,
+        last: None,
+        stage: None,
+        held: 64,
+    };
+    let mut offers = [none; 17];
     for i in 0..n {
         let x = jobs::job_at(jobs, i);
-        let p = x.place;
-        if let Place::Running { part, left: _ } = p {
+        if let Place::Running { part, .. } = x.place {
             let q = home_of(homes, i, part);
+            let o = &mut offers[q];
             if part != 1 {
-                let b = stage[q];
-                stage[q] = smaller_key(b, i, rank[i]);
+                o.stage = against(o.stage, i, rank[i], |key, best| key < best);
             } else if x.begun == 0 {
-                let b = first[q];
-                first[q] = smaller_key(b, i, rank[i]);
+                o.first = against(o.first, i, rank[i], |key, best| key < best);
             } else {
-                let b = last[q];
-                last[q] = larger_key(b, i, x.begun);
-                held[q] = lists::smaller(top[i], held[q]);
+                o.last = against(o.last, i, x.begun, |key, best| key > best);
+                o.held = lists::smaller(top[i], o.held);
             }
         }
     }
-    Offers {
-        first,
-        last,
-        stage,
-        held,
-    }
+    offers
 }
 
-// The row that a processor runs, from what it has to choose from.
-fn choose(first: Best, last: Best, stage: Best, held: u32) -> u32
-    ensures { result ≡ chosen first.row last.row stage.row (ltb first.key held) }
+// The row that a processor runs, from what it has to choose from; 0 is none.
+fn choose(o: &Offer) -> u32
+    ensures { result ≡ choice o.now.first o.now.last o.now.stage o.now.held }
 {
-    if first.row == 0 {
-        if last.row == 0 {
-            return stage.row;
+    match (o.first, o.last) {
+        // no map_or: that it answers the row, or 0, was not proved
+        (None, None) => match o.stage {
+            None => 0,
+            Some(stage) => stage.row,
+        },
+        (None, Some(last)) => last.row,
+        (Some(first), None) => first.row,
+        (Some(first), Some(last)) => {
+            if first.key < o.held {
+                first.row
+            } else {
+                last.row
+            }
         }
-        return last.row;
-    }
-    if last.row == 0 {
-        return first.row;
-    }
-    if first.key < held {
-        first.row
-    } else {
-        last.row
     }
 }
 
 // The row that each processor runs, at the processor's number; 0 is none.
 pub fn picks(
-    jobs: &[u32],
+    jobs: &[u32; 576],
     homes: &[u32; 192],
     rank: &[u32; 64],
     top: &[u32; 64],
     n: usize,
 ) -> [u32; 17]
-    requires { (length jobs.now ≡ 576) × GoodHomes homes.now rank.now n × GoodPlaces (jobs_in jobs.now) n }
+    requires { GoodHomes homes.now rank.now n × GoodPlaces (jobs_in jobs.now) n }
     ensures { result ≡ tab 17 (pick homes.now rank.now top.now n (jobs_in jobs.now)) }
 {
-    let o = look_over(jobs, homes, rank, top, n);
-    let first = o.first;
-    let last = o.last;
-    let stage = o.stage;
-    let held = o.held;
-    let mut out = lists::no_numbered();
+    let offers = look_over(jobs, homes, rank, top, n);
+    let mut out = lists::blank::<17>(0);
     for q in 0..17 {
-        out[q] = choose(first[q], last[q], stage[q], held[q]);
+        out[q] = choose(&offers[q]);
     }
     out
 }

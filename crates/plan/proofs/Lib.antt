@@ -4,3 +4,4 @@ pub mod Covers
 pub mod Exactly
 pub mod Given
 pub mod Broke
+pub mod Turned

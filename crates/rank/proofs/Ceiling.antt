@@ -9,6 +9,7 @@ use native.Mathlib.Decide.{dec_lt, ℕ_discrete}
 use native.Mathlib.Numerals.{add-one}
 use native.Mathlib.Nat.{min-le_left, min-le_right, min-eq_left, min-eq_right}
 use lib.ListN.{get_or, set}
+use Rattle.std.proofs.lemmas.List.{set-get_or}
 use borrow.Author.Tests.{lt-ltb, le-ltb, eq-eqb, ne_eqb}
 use Rattle.lists.proofs.Tab.{get_or-tab, tab_same, tab-set}
 use Rattle.rank.specs.Ceiling.{uses, ceiling_of, ceilings_of}
@@ -98,3 +99,16 @@ module _ (resources ranks ceilings : List ℕ) (k : ℕ) (are : ceilings ≡ cei
       let e : get_or ranks k 0 ≡ ceiling_of resources ranks (k + 1) (get_or resources k 0) = sym (ceiling_new resources ranks (get_or resources k 0) k p refl (omega (arith, ceiling_at (get_or resources k 0) l))) in
       ap (λ (x : List ℕ). set x (get_or resources k 0) (get_or ranks k 0)) are
       ∙ tab-set 17 (ceiling_of resources ranks k) (ceiling_of resources ranks (k + 1)) (get_or resources k 0) (get_or ranks k 0) e (λ r q. sym (ceiling_kept resources ranks r k (λ m n. absurd (q (sym n)))))
+
+  -- so in either case the better of the two ranks is the ceiling of the resource that the row names
+  pub ceilings_user : (x : ℕ) → 0 < get_or resources k 0 → get_or resources k 0 < 17 → x ≡ min (get_or ranks k 0) (get_or ceilings (get_or resources k 0) 0) → set ceilings (get_or resources k 0) x ≡ ceilings_of resources ranks (k + 1)
+  ceilings_user x p l q =
+      let own : ℕ = get_or ranks k 0 in
+      let was : ℕ = get_or ceilings (get_or resources k 0) 0 in
+      dite (dec_lt own was)
+      (λ h.
+      let e : x ≡ own = q ∙ min-eq_left (omega arith) in
+      rw e (ceilings_new p l h))
+      (λ h.
+      let e : x ≡ was = q ∙ min-eq_right (omega arith) in
+      rw e (set-get_or ceilings (get_or resources k 0) 0 ∙ ceilings_kept (λ _ _. omega arith)))

@@ -11,14 +11,15 @@ use Rattle.lists.proofs.Tab.{get_or-filled}
 use Rattle.rank.proofs.Order.{ranks-lt}
 use Rattle.table.specs.declared.Table.{Table}
 use Rattle.table.specs.Good.{GoodTable}
-use Rattle.plan.specs.declared.Outcome.TheVariants.{Planned}
-use Rattle.plan.specs.Planning.{planned_of}
+use Rattle.plan.specs.Trial.{plan_in}
+use Rattle.plan.specs.Planning.{is_planned, planned_of}
 use Rattle.plan.proofs.Covers.{plan_bounds, plan_serves}
 use Rattle.machine.specs.Chart.{threes, locks_of, chart_of}
 use Rattle.machine.specs.Good.{GoodChart, Coming}
 use Rattle.arrivals.specs.declared.Arrival.{Arrival}
 use Rattle.arrivals.proofs.Good.{arrivals_good}
 use Rattle.arrivals.proofs.Seeking.{seek_start}
+use Rattle.arrivals.specs.Check.{number_heard}
 use Rattle.run.specs.Answer.{heard}
 use Rattle.machine.proofs.Threes.{threes_first, threes_second, threes_third, threes_rest, length-threes}
 
@@ -51,22 +52,22 @@ threes-le xs ys zs n b few h k = go (leb (3 * n) k) refl (third k)
     go true e z = omega (arith, threes_rest xs ys zs n few k (leb-true (3 * n) k e))
     go false e z = inside (leb-false (3 * n) k e) z
 
-module _ (t : Table) (good : GoodTable t) (found : (planned_of t).outcome ≡ Planned) where
+module _ (t : Table) (good : GoodTable t) (found : is_planned (planned_of t) ≡ true) where
   -- no section is on a processor above 16
-  lock_le : (i : ℕ) → i < t.n → get_or (locks_of t (planned_of t).plan) i 0 ≤ 16
+  lock_le : (i : ℕ) → i < t.n → get_or (locks_of t (plan_in (planned_of t))) i 0 ≤ 16
   lock_le i h =
-      let e = get_or-filled 64 0 (λ k. get_or (planned_of t).plan.serves (get_or t.resource k 0) 0) t.n i 0 h in
+      let e = get_or-filled 64 0 (λ k. get_or (plan_in (planned_of t)).serves (get_or t.resource k 0) 0) t.n i 0 h in
       omega (arith, e, plan_serves t good found (get_or t.resource i 0))
 
   -- so the chart is good
-  pub good_chart : GoodChart (chart_of t (planned_of t).plan)
+  pub good_chart : GoodChart (chart_of t (plan_in (planned_of t)))
   unfolding chart_of
   good_chart =
       record {
         processors = good.processors.1;
         bounded = record {
-          whole = length-threes (planned_of t).plan.d1 (planned_of t).plan.section (planned_of t).plan.d2 t.n;
-          small = threes-le (planned_of t).plan.d1 (planned_of t).plan.section (planned_of t).plan.d2 t.n 1000000 good.rows.1
+          whole = length-threes (plan_in (planned_of t)).d1 (plan_in (planned_of t)).section (plan_in (planned_of t)).d2 t.n;
+          small = threes-le (plan_in (planned_of t)).d1 (plan_in (planned_of t)).section (plan_in (planned_of t)).d2 t.n 1000000 good.rows.1
               (λ i h.
               let s = (plan_bounds t good found i h).sum in
               let p = (good.tasks i h).period.1 in
@@ -74,7 +75,7 @@ module _ (t : Table) (good : GoodTable t) (found : (planned_of t).outcome ≡ Pl
         };
         homed = record {
           few = good.rows.1;
-          on = threes-le (planned_of t).plan.processor (locks_of t (planned_of t).plan) (planned_of t).plan.processor t.n 16 good.rows.1
+          on = threes-le (plan_in (planned_of t)).processor (locks_of t (plan_in (planned_of t))) (plan_in (planned_of t)).processor t.n 16 good.rows.1
               (λ i h.
               let p = (plan_bounds t good found i h).processor.1 in
               let m = good.processors.1 in
@@ -84,7 +85,7 @@ module _ (t : Table) (good : GoodTable t) (found : (planned_of t).outcome ≡ Pl
       }
 
 -- a list of arrivals that is not refused, before the first tick
-pub coming : (t : Table) → GoodTable t → (xs : List Arrival) → length xs ≤ 4096 → (heard t xs).number ≡ 0 → Coming t.n xs 0 0
+pub coming : (t : Table) → GoodTable t → (xs : List Arrival) → length xs ≤ 4096 → (number_heard (heard t xs)) ≡ 0 → Coming t.n xs 0 0
 coming t good xs few z =
     let g = arrivals_good t.n t.period t.c1 t.a t.c2 xs good.rows.1 z in
     record {

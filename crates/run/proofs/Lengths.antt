@@ -5,7 +5,7 @@ use mathlib.Core.Path.{◌≡◌, refl, sym, ◌∙◌}
 use mathlib.Core.Bool.{Bool, true, false, cond, not}
 use mathlib.Core.List.{List}
 use mathlib.Core.Logic.{dite}
-use mathlib.Core.Option.{none, some}
+use Rattle.std.specs.Prelude.{None, Some}
 use native.Mathlib.Omega.{arith}
 use native.Mathlib.Decide.{dec_lt}
 use borrow.Author.Tests.{ltb-true, ltb-false, lt-ltb, le-ltb, eq-eqb}
@@ -65,7 +65,7 @@ module _ (weight : Arrival → ℕ) (adds : List ℕ → ℕ) (same : (a : Arriv
         at : ℕ
         at = first (length xs) (is_of xs i t)
 
-        go : (b : Bool) → ltb at (length xs) ≡ b → added adds (cond b (some (lens_of (arrival_at xs at))) none) ≡ total (length xs) (λ k. share k i t)
+        go : (b : Bool) → ltb at (length xs) ≡ b → added adds (cond b (Some (lens_of (arrival_at xs at))) None) ≡ total (length xs) (λ k. share k i t)
         go true e =
             let l : at < length xs = ltb-true _ _ e in
             let yes = first_yes (length xs) (is_of xs i t) l in

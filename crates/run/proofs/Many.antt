@@ -1,4 +1,5 @@
 -- A call with more than 4,096 arrivals is refused whatever they are, so at most 4,096 of a lent list have to be taken apart.
+use Rattle.std.specs.Prelude.{Result}
 use Prim.Native.Nat.{ℕ, ◌*◌, ◌<◌, min}
 use mathlib.Core.Path.{◌≡◌, refl, ◌∙◌, ap, subst}
 use mathlib.Core.Bool.{Bool, true, false, cond, or-true}
@@ -10,12 +11,13 @@ use borrow.Author.Tests.{lt-ltb}
 use lib.ListN.{length}
 use lib.Dec.{ltb}
 use Rattle.table.specs.declared.Table.{Table}
-use Rattle.table.specs.declared.Reading.{Reading}
+use Rattle.table.specs.declared.Refusal.{Refusal}
+use Rattle.table.specs.Table.{number_in, table_in}
 use Rattle.plan.specs.Trial.{number_of}
 use Rattle.plan.specs.Planning.{planned_of}
 use Rattle.arrivals.specs.declared.Arrival.{Arrival}
 use Rattle.arrivals.specs.Arrival.{arrivals_of, flat_of}
-use Rattle.arrivals.proofs.Flat.{length_arrivals}
+use Rattle.arrivals.proofs.Numbers.{length_arrivals}
 use Rattle.arrivals.proofs.Apart.{flat_back}
 use Rattle.run.specs.Run.{Ran}
 use Rattle.run.specs.Answer.{bad_window, call_number, call_names, call_answer, table_answer, run_answer, trace_after}
@@ -34,17 +36,17 @@ module _ (xs ys : List Arrival) (k : 4096 < length xs) (l : 4096 < length ys) (f
       above false false = refl
 
   -- so the answer is the same,
-  same_answer : (r : Reading) (size : ℕ) → run_answer r xs f w size ≡ run_answer r ys f w size
+  same_answer : (r : Result Table Refusal) (size : ℕ) → run_answer r xs f w size ≡ run_answer r ys f w size
   unfolding run_answer table_answer call_answer
-  same_answer r size = let e = same_call r.table size in rw (e.0, e.1, e.2)
+  same_answer r size = let e = same_call (table_in r) size in rw (e.0, e.1, e.2)
 
   -- and the trace is left as it was
-  same_trace : (r : Reading) (trace : List ℕ) → trace_after r xs f w trace ≡ trace_after r ys f w trace
+  same_trace : (r : Result Table Refusal) (trace : List ℕ) → trace_after r xs f w trace ≡ trace_after r ys f w trace
   unfolding trace_after
-  same_trace r trace = let e = same_call r.table (length trace) in rw (e.0, e.2, or-true (ltb 0 (number_of (planned_of r.table).outcome)), or-true (ltb 0 r.number))
+  same_trace r trace = let e = same_call (table_in r) (length trace) in rw (e.0, e.2, or-true (ltb 0 (number_of (planned_of (table_in r)))), or-true (ltb 0 (number_in r)))
 
 -- what a call does with a list that was taken apart, it does with the list
-pub from_flat : (r : Reading) (xs : List Arrival) (f w : ℕ) (trace : List ℕ) (ran : Ran) (after out flat : List ℕ) → length out ≡ 20480 → flat ≡ flat_of xs (min (length xs) 4096) out
+pub from_flat : (r : Result Table Refusal) (xs : List Arrival) (f w : ℕ) (trace : List ℕ) (ran : Ran) (after out flat : List ℕ) → length out ≡ 20480 → flat ≡ flat_of xs (min (length xs) 4096) out
     → Leaves r (arrivals_of flat (length xs)) f w trace ran after → Leaves r xs f w trace ran after
 from_flat r xs f w trace ran after out flat all e s =
     dite (dec_lt 4096 (length xs))

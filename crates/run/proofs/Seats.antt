@@ -11,17 +11,17 @@ use Rattle.table.specs.declared.Table.{Table}
 use Rattle.table.specs.Good.{GoodTable}
 use Rattle.table.proofs.Good.{names_resource}
 use Rattle.plan.specs.declared.Plan.{Plan}
-use Rattle.plan.specs.declared.Outcome.TheVariants.{Planned}
-use Rattle.plan.specs.Planning.{planned_of}
+use Rattle.plan.specs.Trial.{plan_in}
+use Rattle.plan.specs.Planning.{is_planned, planned_of}
 use Rattle.plan.proofs.Covers.{plan_bounds, plan_served}
 use Rattle.machine.specs.Chart.{locks_of, chart_of}
 use Rattle.machine.proofs.Threes.{threes_first, threes_second, threes_third}
 use Rattle.run.specs.Seated.{Seated}
 
-module _ (t : Table) (g : GoodTable t) (e : (planned_of t).outcome ≡ Planned) where
+module _ (t : Table) (g : GoodTable t) (e : is_planned (planned_of t) ≡ true) where
   -- the plan
   abbrev p : Plan
-  p = (planned_of t).plan
+  p = (plan_in (planned_of t))
 
   -- the resource of a section has a processor
   locked : (i : ℕ) → i < t.n → 1 ≤ get_or t.a i 0 → (1 ≤ get_or (locks_of t p) i 0) × (get_or (locks_of t p) i 0 ≤ p.s)

@@ -24,13 +24,11 @@ use Rattle.arrivals.specs.Arrival.{brings}
 use Rattle.machine.specs.declared.Chart.{Chart}
 use Rattle.machine.specs.Tick.{late_row, jobs_at, worst_at, late_at, bytes_at}
 use Rattle.machine.specs.Good.{GoodChart, GoodJobs, Dues, Held, Coming}
-use Rattle.machine.proofs.Keep.{good_at, past_at, length-worst}
-use Rattle.machine.proofs.Releasing.{late-le}
-use Rattle.stretch.specs.declared.Stretched.{Stretched}
+use Rattle.machine.proofs.Keep.{good_at, past_at}
 use Rattle.stretch.specs.Stretch.{Stretch}
 use Rattle.stretch.proofs.Steps.{steps_from_lem, worst_from_lem, late_from, bytes_from}
 use Rattle.run.specs.Run.{is_late, log}
-use Rattle.run.specs.State.{Stands, Went}
+use Rattle.run.specs.State.{Stands, Falls}
 use Rattle.run.proofs.Window.{length-log}
 
 module _ (c : Chart) (xs : List Arrival) where
@@ -80,84 +78,63 @@ module _ {c : Chart} {xs : List Arrival} {t : ℕ} {flat dues worst : List ℕ} 
   pub good_in : GoodChart c → t ≤ 1000000 → (i : ℕ) → i < c.n → GoodJob (job_in flat i)
   good_in good h i l = subst GoodJob (jobs_at_lem flat i (omega (arith, good.homed.few))) ((holds good h).good i l).0
 
-  -- all ticks are stepped
-  pub went_all : {e : ℕ} → t ≡ e → Went c xs e c.n next flat dues worst
-  went_all q =
-      record {
-        stands = λ z. subst (λ (k : ℕ). Stands c xs k flat dues worst next) q st;
-        falls = λ h. absurd (omega arith);
-        either = omega arith;
-      }
-
-  -- 192 worst responses
-  pub worst_whole : length worst ≡ 192
-  worst_whole = ap length st.noted ∙ length-worst c (brings xs) t
+  -- a release came too early in tick t
+  pub went_off : (e row : ℕ) → t < e → (row ≡ late_row c.n c.bounds (brings xs) t (jobs_in flat)) × (row < c.n) → Falls c xs e row
+  unfolding late_at
+  went_off e row b led =
+      let row_is : row ≡ late_at c (brings xs) t = led.0 ∙ ap (late_row c.n c.bounds (brings xs) t) st.jobs in
+      record { tick = t; before = b; row = row_is; is = lt-ltb (late_at c (brings xs) t) c.n (omega (arith, row_is, led.1)); clear = st.clear }
 
   -- what a stretch of ticks before tick e leads to, as it is told
-  module _ (e : ℕ) (r : Stretched) (flat' dues' worst' lane : List ℕ) where
+  module _ (e ticks at : ℕ) (flat' dues' worst' lane : List ℕ) where
     abbrev Led : Type 0
     Led =
-        (length flat' ≡ 576) × (length dues' ≡ 64)
-        × (r.late ≡ late_row c.n c.bounds (brings xs) t (jobs_in flat))
-        × (r.late ≡ c.n → Stretch c xs t (jobs_in flat) worst r.ticks (jobs_in flat') worst' lane
-        × (0 < r.ticks) × (t + r.ticks ≤ e) × Dues c.n c.bounds (jobs_in flat') dues' × Coming c.n xs r.next (t + r.ticks))
+        (late_row c.n c.bounds (brings xs) t (jobs_in flat) ≡ c.n)
+        × Stretch c xs t (jobs_in flat) worst ticks (jobs_in flat') worst' lane
+        × (0 < ticks) × (t + ticks ≤ e) × Dues c.n c.bounds (jobs_in flat') dues' × Coming c.n xs at (t + ticks) × (length flat' ≡ 576) × (length dues' ≡ 64)
 
     module _ (led : Led) where
-      -- the row is the machine's
-      late_is : r.late ≡ late_at c (brings xs) t
+      -- no release came too early in tick t,
+      none : late_at c (brings xs) t ≡ c.n
       unfolding late_at
-      late_is = led.2 ∙ ap (late_row c.n c.bounds (brings xs) t) st.jobs
+      none = ap (late_row c.n c.bounds (brings xs) t) (sym st.jobs) ∙ led.0
 
-      -- a release came too early in tick t
-      pub went_off : t < e → r.late < c.n → Went c xs e r.late next flat' dues' worst'
-      went_off b h =
+      -- so the stretch is one of the run,
+      on : Stretch c xs t (jobs_at c (brings xs) t) (worst_at c (brings xs) t) ticks (jobs_in flat') worst' lane
+      on = subst (λ (js : List Job). Stretch c xs t js (worst_at c (brings xs) t) ticks (jobs_in flat') worst' lane) st.jobs
+          (subst (λ (w : List ℕ). Stretch c xs t (jobs_in flat) w ticks (jobs_in flat') worst' lane) st.noted led.1)
+
+      -- none came too early in any of its ticks,
+      on_time : (k : ℕ) → k < t + ticks → is_late c xs k ≡ false
+      on_time k l = go (ltb k t) refl (ltb t k) refl
+        where
+          go : (a : Bool) → ltb k t ≡ a → (b : Bool) → ltb t k ≡ b → is_late c xs k ≡ false
+          go true p b q = st.clear k (ltb-true k t p)
+          go false p false q =
+              let i : k ≡ t = omega (arith, ltb-false k t p, ltb-false t k q) in
+              rw i (le-ltb (late_at c (brings xs) t) c.n (omega (arith, none)))
+          go false p true q =
+              let i : k ≡ t + (k - t) = omega (arith, ltb-true t k q) in
+              let fine = late_from c (brings xs) t (k - t) ∙ on.timely (k - t) (omega (arith, ltb-true t k q)) (omega (arith, ltb-true t k q)) in
+              rw i (le-ltb (late_at c (brings xs) (t + (k - t))) c.n (omega (arith, fine)))
+
+      -- and the numbers stand behind it
+      pub led_on : Stands c xs (t + ticks) flat' dues' worst' at
+      led_on =
           record {
-            stands = λ q. absurd (omega arith);
-            falls = λ l. record { tick = t; before = b; row = late_is; is = lt-ltb (late_at c (brings xs) t) c.n (omega (arith, late_is)); clear = st.clear };
-            either = omega arith;
+            whole = led.6;
+            column = led.7;
+            jobs = on.jobs ∙ sym (steps_from_lem c (brings xs) t ticks);
+            dues_are = led.4;
+            noted = on.noted ∙ sym (worst_from_lem c (brings xs) t ticks);
+            coming = led.5;
+            clear = on_time;
           }
 
-      module _ (h : c.n ≤ r.late) where
-        -- no release came too early in tick t,
-        none : r.late ≡ c.n
-        none = omega (arith, led.2, late-le c.n c.bounds (brings xs) t (jobs_in flat))
+      -- each of its ticks has the bytes of the lane
+      pub led_shown : length lane ≡ c.m → (j : ℕ) → j < ticks → lane ≡ bytes_at c (brings xs) (t + j)
+      led_shown w j l = on.shown w j l ∙ sym (bytes_from c (brings xs) t j)
 
-        -- so the stretch is one of the run,
-        on : Stretch c xs t (jobs_at c (brings xs) t) (worst_at c (brings xs) t) r.ticks (jobs_in flat') worst' lane
-        on = subst (λ (js : List Job). Stretch c xs t js (worst_at c (brings xs) t) r.ticks (jobs_in flat') worst' lane) st.jobs
-            (subst (λ (w : List ℕ). Stretch c xs t (jobs_in flat) w r.ticks (jobs_in flat') worst' lane) st.noted (led.3 none).0)
-
-        -- none came too early in any of its ticks,
-        on_time : (k : ℕ) → k < t + r.ticks → is_late c xs k ≡ false
-        on_time k l = go (ltb k t) refl (ltb t k) refl
-          where
-            go : (a : Bool) → ltb k t ≡ a → (b : Bool) → ltb t k ≡ b → is_late c xs k ≡ false
-            go true p b q = st.clear k (ltb-true k t p)
-            go false p false q =
-                let i : k ≡ t = omega (arith, ltb-false k t p, ltb-false t k q) in
-                rw i (le-ltb (late_at c (brings xs) t) c.n (omega (arith, none, late_is)))
-            go false p true q =
-                let i : k ≡ t + (k - t) = omega (arith, ltb-true t k q) in
-                let fine = late_from c (brings xs) t (k - t) ∙ on.timely (k - t) (omega (arith, ltb-true t k q)) (omega (arith, ltb-true t k q)) in
-                rw i (le-ltb (late_at c (brings xs) (t + (k - t))) c.n (omega (arith, fine)))
-
-        -- and the numbers stand behind it
-        pub led_on : Stands c xs (t + r.ticks) flat' dues' worst' r.next
-        led_on =
-            record {
-              whole = led.0;
-              column = led.1;
-              jobs = on.jobs ∙ sym (steps_from_lem c (brings xs) t r.ticks);
-              dues_are = (led.3 none).3;
-              noted = on.noted ∙ sym (worst_from_lem c (brings xs) t r.ticks);
-              coming = (led.3 none).4;
-              clear = on_time;
-            }
-
-        -- each of its ticks has the bytes of the lane
-        pub led_shown : length lane ≡ c.m → (j : ℕ) → j < r.ticks → lane ≡ bytes_at c (brings xs) (t + j)
-        led_shown w j l = on.shown w j l ∙ sym (bytes_from c (brings xs) t j)
-
-        -- it has one tick at least, and ends by tick e
-        pub led_far : (0 < r.ticks) × (t + r.ticks ≤ e)
-        led_far = ((led.3 none).1, (led.3 none).2)
+      -- it has one tick at least, and ends by tick e
+      pub led_far : (0 < ticks) × (t + ticks ≤ e)
+      led_far = (led.2, led.3)

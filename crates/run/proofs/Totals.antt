@@ -1,4 +1,5 @@
 -- What the answers of calls that are not refused come to.
+use Rattle.std.specs.Prelude.{Result}
 use Prim.Native.Nat.{ℕ, ◌+◌, ◌*◌, ◌≤◌, ◌<◌}
 use mathlib.Core.Path.{◌≡◌, refl, sym, ◌∙◌, ap}
 use mathlib.Core.Bool.{false}
@@ -9,7 +10,8 @@ use lib.ListN.{length, take, drop}
 use lib.Seq.{take_at}
 use Rattle.lists.proofs.First.{first_no}
 use Rattle.table.specs.declared.Table.{Table}
-use Rattle.table.specs.declared.Reading.{Reading}
+use Rattle.table.specs.declared.Refusal.{Refusal}
+use Rattle.table.specs.Table.{table_in}
 use Rattle.table.specs.Table.{reading_of}
 use Rattle.table.specs.Good.{GoodTable}
 use Rattle.table.proofs.Good.{table_good}
@@ -30,11 +32,11 @@ use Rattle.run.proofs.Seats.{planned_seated}
 
 module _ (bytes : List ℕ) (xs : List Arrival) where
   -- what the bytes say, and the table
-  abbrev read : Reading
+  abbrev read : Result Table Refusal
   read = reading_of bytes
 
   abbrev table : Table
-  table = read.table
+  table = table_in read
 
   module _ (f w size : ℕ) (answered : (run_answer read xs f w size).number ≡ 0) where
     -- what the call has passed

@@ -1,5 +1,5 @@
 -- The machine's state on the way through a run.
-use Rattle.std.specs.Prelude.{ℕ, ◌≤◌, ◌<◌, ◌≡◌, true, false, List, length}
+use Rattle.std.specs.Prelude.{ℕ, ◌<◌, ◌≡◌, true, false, List, length}
 use Rattle.jobs.specs.Numbers.{jobs_in}
 use Rattle.arrivals.specs.declared.Arrival.{Arrival}
 use Rattle.arrivals.specs.Arrival.{brings}
@@ -26,9 +26,3 @@ pub record Falls (c : Chart) (xs : List Arrival) (t late : ℕ) : Type 0 where
   pub row : late ≡ late_at c (brings xs) tick
   pub is : is_late c xs tick ≡ true
   pub clear : (e : ℕ) → e < tick → is_late c xs e ≡ false
-
--- one of the two, as the row says, which is n if none came too early
-pub record Went (c : Chart) (xs : List Arrival) (t late next : ℕ) (flat dues worst : List ℕ) : Type 0 where
-  pub stands : late ≡ c.n → Stands c xs t flat dues worst next
-  pub falls : late < c.n → Falls c xs t late
-  pub either : late ≤ c.n

@@ -1,21 +1,20 @@
 // A run: refusals 11 to 19, the trace, and the answer.
 #![tactic(auto)]
 
-ghost use Rattle.std.specs.Prelude.{◌≡◌, ◌++◌, ◌+◌, ◌*◌, ◌≤◌, length, drop};
+ghost use Rattle.std.specs.Prelude.{◌≡◌, ◌++◌, ◌+◌, ◌*◌, ◌≤◌, ◌<◌, length, drop, IfOk, IfErr};
 ghost use Rattle.std.proofs.lemmas.List.Edits.{sets};
-ghost use Rattle.lists.specs.Tab.{joined, blank};
+ghost use Rattle.lists.specs.Tab.{joined};
 ghost use Rattle.table.specs.Table.{reading_of};
 ghost use Rattle.table.specs.Good.{GoodTable};
-ghost use Rattle.arrivals.specs.Arrival.{arrivals_of};
-ghost use Rattle.chain.specs.Release.{never};
+ghost use Rattle.arrivals.specs.Arrival.{listed};
+ghost use Rattle.arrivals.specs.Check.{number_heard, position_heard};
 ghost use Rattle.machine.specs.Good.{GoodChart, Coming};
 ghost use Rattle.run.specs.Run.{refused as refused_lem, done as done_lem, log, stepped_of, shown_of};
 ghost use Rattle.run.specs.Answer.{bad_window as bad_window_lem, call_number, call_names, run_answer, trace_after};
-ghost use Rattle.run.specs.State.{Stands, Went};
+ghost use Rattle.run.specs.State.{Stands, Falls};
 
-use arrivals::Heard;
-use machine::{Chart, Reached, Tally};
-use plan::Outcome;
+use arrivals::Flat;
+use machine::{Chart, State, Tally, TooEarly};
 use table::Table;
 
 // The number of the refusal, 0 if there is none, what it names, its mark, and its value; the worst response of each of the three stages
@@ -42,7 +41,7 @@ fn refused(number: u32, names: u32, mark: u32, value: u32) -> Ran
         names,
         mark,
         value,
-        worst: machine::no_threes(),
+        worst: lists::blank(0),
         jobs: 0,
         run: 0,
         owed: 0,
@@ -69,63 +68,7 @@ fn done(worst: [u32; 192], tally: Tally) -> Ran
 fn bad_window(from: usize, ticks: usize) -> bool
     ensures { result ≡ bad_window_lem from ticks }
 {
-    if ticks > 4096 {
-        return true;
-    }
-    if from > 1000000 {
-        return true;
-    }
-    from + ticks > 1000000
-}
-
-// The bytes of a tick in which every processor is idle.
-fn no_lane() -> [u8; 16]
-    ensures { result ≡ blank 16 0 }
-{
-    [0u8; 16]
-}
-
-// For each row the next tick with a release, before the first arrival: later than every tick.
-fn no_dues() -> [u32; 64]
-    ensures { result ≡ blank 64 never }
-{
-    [4294967295u32; 64]
-}
-
-// Steps the machine from its empty start to before tick e.
-fn wind(
-    c: Chart,
-    flat: &[u32],
-    count: usize,
-    e: usize,
-    jobs: &mut [u32],
-    due: &mut [u32],
-    worst: &mut [u32],
-    lane: &mut [u8],
-) -> Reached
-    requires { (e ≤ 1000000) × (count ≤ 4096) × (length flat.now ≡ 20480) × GoodChart c × (length lane.old ≤ 16) × Stands c (arrivals_of flat.now count) 0 jobs.old due.old worst.old 0 }
-    ensures { Went c (arrivals_of flat.now count) e result.late result.next jobs.new due.new worst.new }
-{
-    let n = c.n;
-    let m = c.m;
-    let bounds = c.bounds;
-    let homes = c.homes;
-    let rank = c.rank;
-    let top = c.top;
-    let mut next = 0;
-    let mut t = 0;
-    while t < e {
-        let r = stretch::stretch(
-            jobs, due, next, t as u32, e as u32, n, m, &bounds, &homes, &rank, &top, flat, count,
-            worst, lane,
-        );
-        if r.late < n {
-            return Reached { next, late: r.late };
-        }
-        next = r.next;
-        t += r.ticks as usize;
-    }
-    Reached { next, late: n }
+    ticks > 4096 || from > 1000000 || from + ticks > 1000000
 }
 
 // Writes the same bytes into the trace for each of some ticks, one behind the other, from place at on.
@@ -139,178 +82,120 @@ fn put_lanes(lane: &[u8], trace: &mut [u8], at: usize, ticks: usize)
     }
 }
 
-// Steps the machine through `ticks` ticks more, from tick `from` on, and writes their bytes at the front of the trace.
+// Steps the machine through `ticks` ticks, from tick `from` on, and writes their bytes at the front of the trace, as many for each
+// as the lane is long: one for each processor, or none.
 fn play(
-    c: Chart,
-    flat: &[u32],
-    count: usize,
+    c: &Chart,
+    xs: &Flat,
     from: usize,
     ticks: usize,
-    start: usize,
-    jobs: &mut [u32],
-    due: &mut [u32],
-    worst: &mut [u32],
+    s: &mut State,
     lane: &mut [u8],
     trace: &mut [u8],
-) -> Reached
-    requires { (from + ticks ≤ 1000000) × (count ≤ 4096) × (length flat.now ≡ 20480) × GoodChart c × (length lane.old ≡ c.m) × (c.m * ticks ≤ length trace.old) × Stands c (arrivals_of flat.now count) from jobs.old due.old worst.old start }
-    ensures { Went c (arrivals_of flat.now count) (from + ticks) result.late result.next jobs.new due.new worst.new × (drop (c.m * ticks) trace.new ≡ drop (c.m * ticks) trace.old) × (result.late ≡ c.n → trace.new ≡ log c (arrivals_of flat.now count) from ticks ++ drop (c.m * ticks) trace.old) }
+) -> Result<(), TooEarly>
+    requires { (from + ticks ≤ 1000000) × (xs.now.count ≤ 4096) × GoodChart c.now × (length lane.old ≤ 16) × (length lane.old * ticks ≤ length trace.old) × Stands c.now (listed xs.now) from s.old.jobs s.old.due s.old.worst s.old.next }
+    ensures ok { IfOk result (λ u. Stands c.now (listed xs.now) (from + ticks) s.new.jobs s.new.due s.new.worst s.new.next × (length lane.old ≡ c.now.m → trace.new ≡ log c.now (listed xs.now) from ticks ++ drop (c.now.m * ticks) trace.old)) }
+    ensures err { IfErr result (λ e. Falls c.now (listed xs.now) (from + ticks) e.row) }
+    ensures rest { length lane.old ≡ c.now.m → drop (c.now.m * ticks) trace.new ≡ drop (c.now.m * ticks) trace.old }
 {
-    let n = c.n;
-    let m = c.m;
-    let bounds = c.bounds;
-    let homes = c.homes;
-    let rank = c.rank;
-    let top = c.top;
-    let mut next = start;
     let mut k = 0;
+    // a while: each stretch says how far it goes
     while k < ticks {
-        let r = stretch::stretch(
-            jobs,
-            due,
-            next,
-            (from + k) as u32,
-            (from + ticks) as u32,
-            n,
-            m,
-            &bounds,
-            &homes,
-            &rank,
-            &top,
-            flat,
-            count,
-            worst,
-            lane,
-        );
-        if r.late < n {
-            return Reached { next, late: r.late };
-        }
-        put_lanes(lane, trace, m * k, r.ticks as usize);
-        next = r.next;
-        k += r.ticks as usize;
+        let more = stretch::stretch(s, c, (from + k) as u32, (from + ticks) as u32, xs, lane)?;
+        put_lanes(lane, trace, lane.len() * k, more as usize);
+        k += more as usize;
     }
-    Reached { next, late: n }
+    Ok(())
 }
 
-// Zeros at the front of the trace.
-fn wipe(trace: &mut [u8], size: usize)
-    requires { size ≤ length trace.old }
-    ensures { trace.new ≡ blank size 0 ++ drop size trace.old }
+// Steps the ticks before a window without a trace, and those of the window with it.
+fn wind_and_play(
+    c: &Chart,
+    xs: &Flat,
+    from: usize,
+    ticks: usize,
+    s: &mut State,
+    trace: &mut [u8],
+) -> Result<(), TooEarly>
+    requires { (from + ticks ≤ 1000000) × (xs.now.count ≤ 4096) × GoodChart c.now × (c.now.m * ticks ≤ length trace.old) × Stands c.now (listed xs.now) 0 s.old.jobs s.old.due s.old.worst s.old.next }
+    ensures ok { IfOk result (λ u. Stands c.now (listed xs.now) (from + ticks) s.new.jobs s.new.due s.new.worst s.new.next × (trace.new ≡ log c.now (listed xs.now) from ticks ++ drop (c.now.m * ticks) trace.old)) }
+    ensures err { IfErr result (λ e. Falls c.now (listed xs.now) (from + ticks) e.row) }
+    ensures rest { drop (c.now.m * ticks) trace.new ≡ drop (c.now.m * ticks) trace.old }
 {
-    for k in 0..size {
-        trace[k] = 0;
-    }
+    let mut lane = [0u8; 16];
+    play(c, xs, 0, from, s, &mut lane[..0], &mut trace[..0])?;
+    play(c, xs, from, ticks, s, &mut lane[..c.m], trace)
 }
 
 // Steps the ticks of a run and writes those of its window.
-fn run_ticks(
-    c: Chart,
-    flat: &[u32],
-    count: usize,
-    from: usize,
-    ticks: usize,
-    trace: &mut [u8],
-) -> Ran
-    requires { (from + ticks ≤ 1000000) × (ticks ≤ 4096) × (count ≤ 4096) × (length flat.now ≡ 20480) × GoodChart c × (c.m * ticks ≤ length trace.old) × Coming c.n (arrivals_of flat.now count) 0 0 }
-    ensures { (result ≡ stepped_of c (arrivals_of flat.now count) from ticks) × (trace.new ≡ shown_of c (arrivals_of flat.now count) from ticks trace.old) }
+fn run_ticks(c: &Chart, xs: &Flat, from: usize, ticks: usize, trace: &mut [u8]) -> Ran
+    requires { (from + ticks ≤ 1000000) × (ticks ≤ 4096) × (xs.now.count ≤ 4096) × GoodChart c.now × (c.now.m * ticks ≤ length trace.old) × Coming c.now.n (listed xs.now) 0 0 }
+    ensures { (result ≡ stepped_of c.now (listed xs.now) from ticks) × (trace.new ≡ shown_of c.now (listed xs.now) from ticks trace.old) }
 {
-    let n = c.n;
-    let size = c.m * ticks;
-    let mut jobs = jobs::no_jobs();
-    let mut due = no_dues();
-    let mut worst = machine::no_threes();
-    let mut lane = no_lane();
-    let before = wind(
-        c,
-        flat,
-        count,
-        from,
-        &mut jobs,
-        &mut due,
-        &mut worst,
-        &mut lane[..0],
-    );
-    if before.late < n {
-        wipe(trace, size);
-        return refused(19, before.late as u32 + 1, 0, 0);
+    let mut s = State::start();
+    match wind_and_play(c, xs, from, ticks, &mut s, trace) {
+        Ok(()) => done(s.worst, machine::count_up(&s.jobs, c.n)),
+        Err(e) => {
+            trace[..c.m * ticks].fill(0);
+            refused(19, e.row as u32 + 1, 0, 0)
+        }
     }
-    let after = play(
-        c,
-        flat,
-        count,
-        from,
-        ticks,
-        before.next,
-        &mut jobs,
-        &mut due,
-        &mut worst,
-        &mut lane[..c.m],
-        trace,
-    );
-    if after.late < n {
-        wipe(trace, size);
-        return refused(19, after.late as u32 + 1, 0, 0);
-    }
-    done(worst, machine::count_up(&jobs, n))
 }
 
-// The refusal 12 to 18 of a call, 0 if there is none, and the position that it names.
-fn check_call(t: Table, flat: &[u32], count: usize, from: usize, ticks: usize, size: usize) -> Heard
-    requires { (length flat.now ≡ 20480) × GoodTable t }
-    ensures { (result.number ≡ call_number t (arrivals_of flat.now count) from ticks size) × (result.position ≡ call_names t (arrivals_of flat.now count) from ticks size) }
+// A call that is refused: its number, 12 to 18, and the position that it names.
+#[derive(Clone, Copy)]
+struct NoCall {
+    number: u32,
+    names: u32,
+}
+
+// The refusal 12 to 18 of a call, if there is one.
+fn check_call(t: &Table, xs: &Flat, from: usize, ticks: usize, size: usize) -> Result<(), NoCall>
+    requires { GoodTable t.now }
+    ensures ok { IfOk result (λ u. call_number t.now (listed xs.now) from ticks size ≡ 0) }
+    ensures err { IfErr result (λ e. (e.number ≡ call_number t.now (listed xs.now) from ticks size) × (e.names ≡ call_names t.now (listed xs.now) from ticks size) × (0 < e.number)) }
 {
     if bad_window(from, ticks) {
-        return Heard {
+        return Err(NoCall {
             number: 12,
-            position: 0,
-        };
+            names: 0,
+        });
     }
     if size < t.m * ticks {
-        return Heard {
+        return Err(NoCall {
             number: 13,
-            position: 0,
-        };
+            names: 0,
+        });
     }
-    if count > 4096 {
-        return Heard {
+    if xs.count > 4096 {
+        return Err(NoCall {
             number: 14,
-            position: 0,
-        };
+            names: 0,
+        });
     }
-    let period = t.period;
-    let c1 = t.c1;
-    let a = t.a;
-    let c2 = t.c2;
-    arrivals::check_arrivals(flat, count, &period, &c1, &a, &c2, t.n)
+    match arrivals::check_arrivals(xs, t) {
+        Ok(()) => Ok(()),
+        Err(e) => Err(NoCall {
+            number: e.fault.number(),
+            names: e.position,
+        }),
+    }
 }
 
 // A run of a table from any bytes, with arrivals as numbers side by side, five for each.
-pub fn run_flat(
-    table: &[u8],
-    flat: &[u32],
-    count: usize,
-    from: usize,
-    ticks: usize,
-    trace: &mut [u8],
-) -> Ran
-    requires { length flat.now ≡ 20480 }
-    ensures { (result ≡ run_answer (reading_of table.now) (arrivals_of flat.now count) from ticks (length trace.old)) × (trace.new ≡ trace_after (reading_of table.now) (arrivals_of flat.now count) from ticks trace.old) }
+pub fn run_flat(table: &[u8], xs: &Flat, from: usize, ticks: usize, trace: &mut [u8]) -> Ran
+    ensures { (result ≡ run_answer (reading_of table.now) (listed xs.now) from ticks (length trace.old)) × (trace.new ≡ trace_after (reading_of table.now) (listed xs.now) from ticks trace.old) }
 {
-    let r = table::read_table(table);
-    if r.number > 0 {
-        return refused(r.number, r.names, 0, 0);
+    let t = match table::read_table(table) {
+        Ok(t) => t,
+        Err(e) => return refused(e.number(), e.names(), 0, 0),
+    };
+    let p = match plan::plan_table(&t) {
+        Ok(p) => p,
+        Err(e) => return refused(11, e.row, e.mark.number(), e.value),
+    };
+    match check_call(&t, xs, from, ticks, trace.len()) {
+        Ok(()) => run_ticks(&machine::chart_of(&t, &p), xs, from, ticks, trace),
+        Err(e) => refused(e.number, e.names, 0, 0),
     }
-    let t = r.table;
-    let tried = plan::plan_table(t);
-    let outcome = tried.outcome;
-    if let Outcome::Failed(row, mark, value) = outcome {
-        return refused(11, row, mark, value);
-    }
-    let call = check_call(t, flat, count, from, ticks, trace.len());
-    if call.number > 0 {
-        return refused(call.number, call.position, 0, 0);
-    }
-    let p = tried.plan;
-    let c = machine::chart_of(t, p);
-    run_ticks(c, flat, count, from, ticks, trace)
 }

@@ -8,14 +8,12 @@ use native.Mathlib.Omega.{arith}
 use native.Mathlib.Decide.{dec_lt}
 use borrow.Author.Tests.{lt-ltb, le-ltb}
 use lib.ListN.{get_or}
-use Rattle.lists.proofs.Tests.{clash}
+use Rattle.std.specs.Prelude.{Ok, Err}
 use Rattle.lists.proofs.First.{first_yes}
 use Rattle.bounds.specs.Demand.{Term}
 use Rattle.bounds.specs.Terms.{terms_on}
 use Rattle.bounds.specs.Sequence.{Breaks}
-use Rattle.bounds.specs.Bound.{is_missing, broke_of}
-use Rattle.bounds.specs.declared.Bound.{Bound}
-use Rattle.bounds.specs.declared.Bound.TheVariants.{At, Missing}
+use Rattle.bounds.specs.Bound.{Bound, is_missing, broke_of}
 use Rattle.bounds.proofs.Terms.{on_good, length-on}
 use Rattle.bounds.proofs.Search.{broke_exactly, broke_small}
 use Rattle.sections.specs.Blocking.{blocking_of}
@@ -41,8 +39,8 @@ module _ (npp : Bool) (periods sections tops homes : List ℕ) (n : ℕ) where
       rw (lt-ltb lacking n l) (go (section_bound npp periods sections tops homes n lacking) refl (first_yes n (λ j. is_missing (section_bound npp periods sections tops homes n j)) l))
     where
       go : (b : Bound) → section_bound npp periods sections tops homes n lacking ≡ b → is_missing b ≡ true → Breaks lacking_terms (get_or sections lacking 0 + lacking_b) (get_or periods lacking 0) (broke_of b)
-      go (At t) e h = clash cc
-      go (Missing v) e h = ((broke_exactly lacking_terms lacking_b (get_or periods lacking 0) v (get_or sections lacking 0)).0 e).1
+      go (Ok t) e h = cc
+      go (Err v) e h = ((broke_exactly lacking_terms lacking_b (get_or periods lacking 0) v.value (get_or sections lacking 0)).0 e).1
 
   -- and it fits into 32 bits
   pub missing_small : GoodSections periods sections homes n → missing_value npp periods sections tops homes n ≤ 130000000

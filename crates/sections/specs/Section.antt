@@ -1,12 +1,11 @@
 -- "Section bound S of k", and "All S are worked out in rank order."
-use Rattle.std.specs.Prelude.{ℕ, List, Bool, cond, get_or, ltb}
+use Rattle.std.specs.Prelude.{ℕ, List, Bool, cond, get_or, ltb, Result, Ok, Err}
 use Rattle.lists.specs.Tab.{filled}
 use Rattle.lists.specs.First.{first}
 use Rattle.bounds.specs.Terms.{terms_on}
-use Rattle.bounds.specs.Bound.{bound_of, is_missing, time_of, broke_of}
-use Rattle.bounds.specs.declared.Bound.{Bound}
+use Rattle.bounds.specs.Bound.{Bound, bound_of, is_missing, time_of, broke_of}
 use Rattle.sections.specs.Blocking.{blocking_of}
-use Rattle.sections.specs.declared.Sections.{Sections}
+use Rattle.sections.specs.declared.NoSection.{NoSection}
 
 module _ (npp : Bool) (periods sections tops homes : List ℕ) (n : ℕ) where
   -- "the least t ≥ 1 for which A + B + the sum, over better-ranked tasks i with a section on that processor, of ceil(t / T_i) × A_i
@@ -24,5 +23,14 @@ module _ (npp : Bool) (periods sections tops homes : List ℕ) (n : ℕ) where
   missing_value = cond (ltb first_missing n) (broke_of (section_bound first_missing)) 0
 
   -- the bounds up to there
-  unfoldable pub sections_of : Sections
-  sections_of = record { missing = first_missing; value = missing_value; bound = filled 64 0 first_missing (λ k. time_of (section_bound k)) }
+  unfoldable pub bounds_found : List ℕ
+  bounds_found = filled 64 0 first_missing (λ k. time_of (section_bound k))
+
+  -- all of them, or those before the first that is missing
+  unfoldable pub sections_of : Result (List ℕ) NoSection
+  sections_of = cond (ltb first_missing n) (Err (record { task = first_missing; value = missing_value; bound = bounds_found })) (Ok bounds_found)
+
+-- the bounds that are answered, of all tasks or of those before the first without one
+abbrev pub bounds_in : Result (List ℕ) NoSection → List ℕ
+bounds_in (Ok bs) = bs
+bounds_in (Err e) = e.bound

@@ -1,18 +1,17 @@
 // Blocking, and the bounds of sections.
 #![tactic(auto)]
 
-ghost use Rattle.std.specs.Prelude.{◌≡◌, cond, ◌&&◌, ◌||◌, ◌<◌, ◌≤◌, max, leb, eqb};
+ghost use Rattle.std.specs.Prelude.{◌≡◌, ◌&&◌, ◌||◌, ◌<◌, ◌≤◌, leb, eqb};
 ghost use Rattle.sections.specs.Blocking.{blocking_of};
 ghost use Rattle.sections.specs.Section.{sections_of};
 ghost use Rattle.sections.specs.Good.{GoodSections};
 
-use bounds::Bound;
+use bounds::{Lanes, Term};
 
-// The bound of each task's section, in rank order, up to the first task that has none, and the value that broke its limit: n and 0 if each
-// has one.
+// The first task whose section has no bound, the value that broke its limit, and the bounds of the tasks before it.
 #[derive(Drop)]
-pub struct Sections {
-    pub missing: usize,
+pub struct NoSection {
+    pub task: usize,
     pub value: u32,
     pub bound: [u32; 64],
 }
@@ -21,25 +20,7 @@ pub struct Sections {
 fn counts(npp: bool, top: u32, home: u32, here: u32, k: u32) -> bool
     ensures { result ≡ (eqb home here && (npp || leb top k)) }
 {
-    if home != here {
-        return false;
-    }
-    if npp {
-        return true;
-    }
-    top <= k
-}
-
-// The larger of a length and the largest one so far, where the length counts.
-fn larger_if(counts: bool, len: u32, most: u32) -> u32
-    ensures { result ≡ cond counts (max len most) most }
-{
-    if counts {
-        if most < len {
-            return len;
-        }
-    }
-    most
+    home == here && (npp || top <= k)
 }
 
 // The blocking of task k of n: the largest section that may be in the way, less the unit that it ran before.
@@ -56,22 +37,16 @@ fn blocking(
 {
     let here = home[k];
     let mut most = 0;
-    let mut i = k + 1;
-    while i < n {
-        most = larger_if(
-            counts(npp, top[i], home[i], here, k as u32),
-            section[i],
-            most,
-        );
-        i += 1;
+    for i in k + 1..n {
+        if counts(npp, top[i], home[i], here, k as u32) {
+            most = section[i].max(most);
+        }
     }
-    if most < 1 {
-        return 0;
-    }
-    most - 1
+    most.saturating_sub(1)
 }
 
 // The bounds of the sections of n tasks, in rank order, up to the first that is missing.
+// The columns stay apart, as the table holds them: one array of structs would have to be gathered from them for each trial.
 pub fn section_bounds(
     npp: bool,
     period: &[u32; 64],
@@ -79,42 +54,32 @@ pub fn section_bounds(
     top: &[u32; 64],
     home: &[u32; 64],
     n: usize,
-) -> Sections
+) -> Result<[u32; 64], NoSection>
     requires { GoodSections period.now section.now home.now n }
     ensures { result ≡ sections_of npp period.now section.now top.now home.now n }
 {
-    let mut bound = lists::no_column();
-    let mut periods = bounds::no_lanes();
-    let mut lens = bounds::no_lanes();
-    let mut count = lists::no_numbered();
-    let mut k = 0;
-    while k < n {
+    let mut bound = lists::blank(0);
+    let mut lanes = Lanes::new();
+    for k in 0..n {
         let p = home[k] as usize;
         let b = blocking(npp, section, top, home, n, k);
-        let found = bounds::bound_on(&periods, &lens, &count, p, section[k], b, period[k]);
-        match found {
-            Bound::At(t) => bound[k] = t,
-            Bound::Missing(value) => {
-                return Sections {
-                    missing: k,
-                    value,
+        match lanes.bound_on(p, section[k], b, period[k]) {
+            Ok(t) => bound[k] = t,
+            Err(broke) => {
+                return Err(NoSection {
+                    task: k,
+                    value: broke.value,
                     bound,
-                };
+                });
             }
         }
-        bounds::add_term(
-            &mut periods,
-            &mut lens,
-            &mut count,
+        lanes.add(
             p,
-            period[k],
-            section[k],
+            Term {
+                period: period[k],
+                len: section[k],
+            },
         );
-        k += 1;
     }
-    Sections {
-        missing: n,
-        value: 0,
-        bound,
-    }
+    Ok(bound)
 }

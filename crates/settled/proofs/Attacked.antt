@@ -13,11 +13,12 @@ use denote.Triple.Entry.{Args}
 use lib.ListN.{length, get_or, take, drop}
 use Rattle.lists.specs.Tab.{tab, blank}
 use Rattle.lists.proofs.Tab.{get_or-blank}
-use Rattle.table.specs.Table.{reading_of}
+use Rattle.table.specs.Table.{reading_of, table_in}
 use Rattle.table.proofs.Good.{table_good}
 use Rattle.table.proofs.Given.{PCP, Given, written, hex}
 use Rattle.plan.specs.declared.Plan.{Plan}
 use Rattle.plan.specs.Tasks.{tasks_of}
+use Rattle.plan.specs.Trial.{plan_in}
 use Rattle.plan.specs.Planning.{planned_of}
 use Rattle.plan.specs.Bounds.{RowBounds}
 use Rattle.plan.proofs.Covers.{plan_bounds}
@@ -61,10 +62,10 @@ Runs = Meets kieferntuch_run_contract.ended run_asks run_says
 
 -- n and m of a table's bytes
 abbrev pub rows_of : List ℕ → ℕ
-rows_of table = (reading_of table).table.n
+rows_of table = (table_in (reading_of table)).n
 
 abbrev pub processors_of : List ℕ → ℕ
-processors_of table = (reading_of table).table.m
+processors_of table = (table_in (reading_of table)).m
 
 -- "a planner that refuses all": with whatever number
 abbrev pub RefusesAll : Planner → Type 0
@@ -208,7 +209,7 @@ module _ (f : Planner) (meets : Plans f) where
   -- "(demand 2, "exactly when")": it answers 0 exactly when the table is good, the sheet has room, and a listed trial succeeds
   pub plans_exactly : (κs : _) (a : _) →
       let (table, (at, (sheet, _))) = a in
-      ((f κs a).0.number ≡ 0) ↔ (Ready table.now at (length sheet.now) × Succeeds (tasks_of (reading_of table.now).table))
+      ((f κs a).0.number ≡ 0) ↔ (Ready table.now at (length sheet.now) × Succeeds (tasks_of (table_in (reading_of table.now))))
   plans_exactly κs a =
       let (table, (at, (sheet, _))) = a in
       rw (meets κs a tt).0 (written_exactly table.now at (length sheet.now))
@@ -217,16 +218,16 @@ module _ (f : Planner) (meets : Plans f) where
   pub bounds_are_least : (κs : _) (a : _) →
       let (table, (at, _)) = a in
       let (r, (_, (_, (after, _)))) = f κs a in
-      let t = (reading_of table.now).table in
+      let t = (table_in (reading_of table.now)) in
       r.number ≡ 0 →
       (p : Plan) × PlanRead (take (12 + 9 * t.n) (drop at after)) t.n t.m p.s p.serves p.processor p.d1 p.section p.d2 × ((i : ℕ) → i < t.n → RowBounds t p i)
   bounds_are_least κs a z =
       let (table, (at, (sheet, _))) = a in
       let (answer, after) = meets κs a tt in
-      let t = (reading_of table.now).table in
+      let t = (table_in (reading_of table.now)) in
       let e : (plan_answer (reading_of table.now) at (length sheet.now)).number ≡ 0 = (λ i. (sym answer i).number) ∙ z in
       let ((good, room), found) = planned table.now at (length sheet.now) e in
-      ((planned_of t).plan, rw after (sheet_read_back table.now at sheet.now e), plan_bounds t (table_good table.now (reading_of table.now) refl good) found)
+      (plan_in (planned_of t), rw after (sheet_read_back table.now at sheet.now e), plan_bounds t (table_good table.now (reading_of table.now) refl good) found)
 
 module _ (f : Runner) (meets : Runs f) where
   -- what it answers in such a call, and the trace that it leaves; by the contract it is what the definitions say
@@ -293,7 +294,7 @@ module _ (f : Runner) (meets : Runs f) where
   pub jobs_have_come : (κs : _) (a : _) →
       let (table, (arrivals, (from, (ticks, _)))) = a in
       let r = (f κs a).0 in
-      r.number ≡ 0 → r.jobs + still_there (rows_of table.now) (jobs_at (chart_in (reading_of table.now).table) (brings arrivals.now) (from + ticks)) ≡ arrived arrivals.now (from + ticks)
+      r.number ≡ 0 → r.jobs + still_there (rows_of table.now) (jobs_at (chart_in (table_in (reading_of table.now))) (brings arrivals.now) (from + ticks)) ≡ arrived arrivals.now (from + ticks)
   jobs_have_come κs a z =
       let (table, (arrivals, (from, (ticks, (trace, _))))) = a in
       let answer = (meets κs a tt).0 in

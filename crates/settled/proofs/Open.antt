@@ -1,6 +1,7 @@
 -- The two public functions whose contracts leave something open, and what is settled all the same.
 use Prim.Native.Nat.{ℕ, ◌+◌, ◌*◌, ◌<◌}
-use mathlib.Core.Path.{◌≡◌, sym, ◌∙◌, ap, subst}
+use Rattle.std.specs.Prelude.{Result, Ok, Err}
+use mathlib.Core.Path.{◌≡◌, refl, sym, ◌∙◌, ap, subst}
 use mathlib.Core.List.{List}
 use mathlib.Core.Logic.{dite}
 use native.Mathlib.Omega.{arith}
@@ -11,6 +12,7 @@ use Rattle.arrivals.specs.Seek.{Seek}
 use Rattle.jobs.specs.Numbers.{jobs_in}
 use Rattle.chain.specs.declared.Job.{Job}
 use Rattle.machine.specs.declared.Chart.{Chart}
+use Rattle.machine.specs.declared.TooEarly.{TooEarly}
 use Rattle.arrivals.specs.Arrival.{brings}
 use Rattle.stretch.specs.Stretch.{steps_from, worst_from, Stretch}
 use Rattle.settled.specs.Settled.{Agrees}
@@ -26,13 +28,26 @@ seek_one xs j k key x y =
     (λ l. absurd (omega (arith, y.past j l, x.ahead j (omega arith) (omega (arith, y.inside)))))
     (λ l. dite (dec_lt k j) (λ m. absurd (omega (arith, x.past k m, y.ahead k (omega arith) (omega (arith, x.inside))))) (λ m. omega arith))
 
+-- the row with a release that comes too early, n if there is none
+abbrev pub late_in : {A : Type 0} → ℕ → Result A TooEarly → ℕ
+late_in n (Ok a) = n
+late_in n (Err e) = e.row
+
+-- one of two calls ends with a release that comes too early, in a row below n, and the other with none: not if both speak of the same row
+abbrev pub Apart : ℕ → ℕ → TooEarly → Type 0
+Apart late n e = (e.row ≡ late) × (e.row < n)
+
+not_apart : {late n : ℕ} {e : TooEarly} → late ≡ n → Apart late n e → ⊥
+not_apart {late} {n} {e} h k = omega (arith, h, k.0, k.1)
+
 -- What the releases of a tick settle: whether one comes too early, and of which row; if none does, the jobs, and the place that the arrivals have come to. Open are the jobs where one comes too early (the run is over, and nobody reads them), and by which numbers a job is kept that stands for the same.
 release_rows_agrees : Agrees release_rows_contract.ended
-    (λ κs (jobs, (due, (bounds, (n, rest)))) (x, (js, v)) (y, (ks, w)). (x.late ≡ y.late) × (x.late ≡ n → (jobs_in js ≡ jobs_in ks) × (x.next ≡ y.next)))
+    (λ κs (jobs, (due, (c, rest))) (x, (js, v)) (y, (ks, w)). (late_in c.now.n x ≡ late_in c.now.n y) × (late_in c.now.n x ≡ c.now.n → (jobs_in js ≡ jobs_in ks) × (x ≡ y)))
     release_rows_proof.Reads.Pre release_rows_proof.Reads.Post
-release_rows_agrees κs a (x, v) (y, w) h p q =
-    let late : x.late ≡ y.late = p.2 ∙ sym q.2 in
-    (late, λ e. let l = sym late ∙ e in ((p.3 e).0 ∙ sym (q.3 l).0, seek_one _ _ _ _ (p.3 e).2.seek (q.3 l).2.seek))
+release_rows_agrees κs a (Ok j, v) (Ok k, w) h p q = (refl, λ e. (p.0.1 ∙ sym q.0.1, ap Ok (seek_one _ _ _ _ p.0.3.seek q.0.3.seek)))
+release_rows_agrees κs a (Ok j, v) (Err e, w) h p q = absurd (not_apart p.0.0 q.1)
+release_rows_agrees κs a (Err e, v) (Ok k, w) h p q = absurd (not_apart q.0.0 p.1)
+release_rows_agrees κs a (Err d, v) (Err e, w) h p q = (p.1.0 ∙ sym q.1.0, λ e. absurd (omega (arith, e, p.1.1)))
 
 -- as many ticks from the same jobs on lead to the same
 as_many : {c : Chart} {xs : List Arrival} {t : ℕ} {js js₁ js₂ : List Job} {worst worst₁ worst₂ lane₁ lane₂ : List ℕ} {k₁ k₂ next₁ next₂ : ℕ} → k₁ ≡ k₂ → Stretch c xs t js worst k₁ js₁ worst₁ lane₁ → Stretch c xs t js worst k₂ js₂ worst₂ lane₂ → 0 < k₁ → 0 < k₂
@@ -46,15 +61,16 @@ as_many {c} {xs} {t} {js} {worst = worst} {next₁ = next₁} {next₂ = next₂
 
 -- What a stretch of ticks settles: the same, and with as many ticks the jobs, the worst responses, the bytes where a lane is lent for them, and the place that the arrivals have come to. Open is how many ticks are taken together.
 stretch_agrees : Agrees stretch_contract.ended
-    (λ κs (jobs, (due, (next, (t, (e, (n, (m, rest))))))) (x, (js, (ds, (i2, (i3, (i4, (i5, (i6, (i7, (i8, (i9, (i10, (i11, (i12, (worst, (lane, i))))))))))))))))
-    (y, (ks, (es, (j2, (j3, (j4, (j5, (j6, (j7, (j8, (j9, (j10, (j11, (j12, (worst', (lane', j)))))))))))))))).
-    (x.late ≡ y.late) × (x.late ≡ n → x.ticks ≡ y.ticks → (jobs_in js ≡ jobs_in ks) × (worst ≡ worst') × (length lane ≡ m → length lane' ≡ m → lane ≡ lane') × (x.next ≡ y.next)))
+    (λ κs (s, (c, rest)) (x, (s₁, (i1, (i2, (i3, (i4, (lane₁, i))))))) (y, (s₂, (j1, (j2, (j3, (j4, (lane₂, j))))))).
+    (late_in c.now.n x ≡ late_in c.now.n y)
+    × (late_in c.now.n x ≡ c.now.n → x ≡ y → (jobs_in s₁.jobs ≡ jobs_in s₂.jobs) × (s₁.worst ≡ s₂.worst) × (length lane₁ ≡ c.now.m → length lane₂ ≡ c.now.m → lane₁ ≡ lane₂) × (s₁.next ≡ s₂.next)))
     stretch_proof.Reads.Pre stretch_proof.Reads.Post
-stretch_agrees κs a (x, v) (y, w) h p q =
-    let late : x.late ≡ y.late = p.2 ∙ sym q.2 in (
-      late,
-      λ e k.
-          let (f, some, till, dues, coming) = p.3 e in
-          let (g, some', till', dues', coming') = q.3 (sym late ∙ e) in
-          as_many k f g some some' coming.seek coming'.seek,
-    )
+stretch_agrees κs a (Ok j, v) (Ok k, w) h p q = (
+  refl,
+  λ l e.
+      let count : Result ℕ TooEarly → ℕ = elim [ Ok x ↦ x | Err d ↦ 0 ] in
+      as_many (λ i. count (e i)) p.0.1 q.0.1 p.0.2 q.0.2 p.0.5.seek q.0.5.seek,
+)
+stretch_agrees κs a (Ok j, v) (Err e, w) h p q = absurd (not_apart p.0.0 q.1)
+stretch_agrees κs a (Err e, v) (Ok k, w) h p q = absurd (not_apart q.0.0 p.1)
+stretch_agrees κs a (Err d, v) (Err e, w) h p q = (p.1.0 ∙ sym q.1.0, λ l e. absurd (omega (arith, l, p.1.1)))

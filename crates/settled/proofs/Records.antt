@@ -2,7 +2,7 @@
 use Prim.Native.Nat.{min}
 use mathlib.Core.Path.{◌≡◌, refl, sym, ◌∙◌}
 use seplogic.Ra.Ura.{Ura}
-use base.Logic.{SProp}
+use base.Logic.{SProp, emp}
 use prog.Memory.{Memory}
 use prog.Routine.{Routine}
 use types.Logic.{Logic}
@@ -19,7 +19,7 @@ use Rattle.arrivals.specs.contracts.taken_apart as taken_apart_contract
 use Rattle.kieferntuch.specs.contracts.kieferntuch_run as kieferntuch_run_contract
 
 abbrev pub apart_asks : Requires taken_apart_contract.ended
-apart_asks κs (list, (flat, _)) = length flat.now ≡ 20480
+apart_asks κs a = Unit {0}
 
 abbrev pub apart_says : Ensures taken_apart_contract.ended
 apart_says κs (list, (flat, _)) r (list', (flat', _)) = flat'.now ≡ flat_of list.now (min (length list.now) 4096) flat.now
@@ -33,7 +33,7 @@ run_says κs (table, (arrivals, (from, (ticks, (trace, _))))) r (_, (_, (_, (_, 
     × (trace'.now ≡ trace_after (reading_of table.now) arrivals.now from ticks trace.now)
 
 module _ {M : Type 1} {𝓤 : Ura M} (𝓛 : Logic 𝓤) (mem : Memory → SProp 𝓤) (run : Routine → Fun 𝓤) where
-  pub apart_reads_asks : (κs : Lfts (taken_apart_contract.ended).signature.lifetimes) (a : Args (taken_apart_contract.ended).signature κs) → (taken_apart_contract.clauses 𝓛 mem run κs a).requires tt ≡ fact 𝓤 (apart_asks κs a)
+  pub apart_reads_asks : (κs : Lfts (taken_apart_contract.ended).signature.lifetimes) (a : Args (taken_apart_contract.ended).signature κs) → (taken_apart_contract.clauses 𝓛 mem run κs a).requires tt ≡ emp 𝓤
   apart_reads_asks κs a = refl
 
   pub apart_reads : (κs : Lfts (taken_apart_contract.ended).signature.lifetimes) (a : Args (taken_apart_contract.ended).signature κs) (r : Res (taken_apart_contract.ended).signature κs) (e : AtExit taken_apart_contract.ended κs) → (taken_apart_contract.clauses 𝓛 mem run κs a).ensures tt r e ≡ fact 𝓤 (apart_says κs a r e)

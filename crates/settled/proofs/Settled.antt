@@ -1,12 +1,11 @@
 -- Every public function but the two of Open: any two results that its contract allows are the same, and so is what they leave in lent buffers. `NAME.Reads` is the function's own contract, which is an equation, so both results are the same as a third. The two that are lent records are in Records.
+use mir.Syntax.{w64}
+use mir.Val.{Fits}
+use denote.Param.{number}
 use mathlib.Core.Path.{refl, sym, ◌∙◌}
 use Rattle.settled.specs.Settled.{Settles}
-use Rattle.lists.specs.contracts.no_column as no_column_contract
-use Rattle.lists.proofs.no_column as no_column_proof
-use Rattle.lists.specs.contracts.no_numbered as no_numbered_contract
-use Rattle.lists.proofs.no_numbered as no_numbered_proof
-use Rattle.lists.specs.contracts.one_if as one_if_contract
-use Rattle.lists.proofs.one_if as one_if_proof
+use Rattle.lists.specs.contracts.blank as blank_contract
+use Rattle.lists.proofs.blank as blank_proof
 use Rattle.lists.specs.contracts.smaller as smaller_contract
 use Rattle.lists.proofs.smaller as smaller_proof
 use Rattle.lists.specs.contracts.store as store_contract
@@ -27,16 +26,20 @@ use Rattle.rank.specs.contracts.in_rows as in_rows_contract
 use Rattle.rank.proofs.in_rows as in_rows_proof
 use Rattle.rank.specs.contracts.numbers_to as numbers_to_contract
 use Rattle.rank.proofs.numbers_to as numbers_to_proof
+use Rattle.table.specs.contracts.Refusal.number as refusal_number_contract
+use Rattle.table.proofs.Refusal.number as refusal_number_proof
+use Rattle.table.specs.contracts.Refusal.names as refusal_names_contract
+use Rattle.table.proofs.Refusal.names as refusal_names_proof
 use Rattle.table.specs.contracts.read_table as read_table_contract
 use Rattle.table.proofs.read_table as read_table_proof
 use Rattle.table.specs.contracts.refusal_of as refusal_of_contract
 use Rattle.table.proofs.refusal_of as refusal_of_proof
-use Rattle.bounds.specs.contracts.bound_on as bound_on_contract
-use Rattle.bounds.proofs.bound_on as bound_on_proof
-use Rattle.bounds.specs.contracts.add_term as add_term_contract
-use Rattle.bounds.proofs.add_term as add_term_proof
-use Rattle.bounds.specs.contracts.no_lanes as no_lanes_contract
-use Rattle.bounds.proofs.no_lanes as no_lanes_proof
+use Rattle.bounds.specs.contracts.Lanes.new as new_contract
+use Rattle.bounds.proofs.Lanes.new as new_proof
+use Rattle.bounds.specs.contracts.Lanes.bound_on as bound_on_contract
+use Rattle.bounds.proofs.Lanes.bound_on as bound_on_proof
+use Rattle.bounds.specs.contracts.Lanes.add as add_contract
+use Rattle.bounds.proofs.Lanes.add as add_proof
 use Rattle.sections.specs.contracts.section_bounds as section_bounds_contract
 use Rattle.sections.proofs.section_bounds as section_bounds_proof
 use Rattle.stages.specs.contracts.place_tasks as place_tasks_contract
@@ -49,18 +52,20 @@ use Rattle.spread.specs.contracts.heaviest as heaviest_contract
 use Rattle.spread.proofs.heaviest as heaviest_proof
 use Rattle.spread.specs.contracts.serve as serve_contract
 use Rattle.spread.proofs.serve as serve_proof
+use Rattle.plan.specs.contracts.Mark.number as mark_number_contract
+use Rattle.plan.proofs.Mark.number as mark_number_proof
 use Rattle.plan.specs.contracts.of_resource as of_resource_contract
 use Rattle.plan.proofs.of_resource as of_resource_proof
 use Rattle.plan.specs.contracts.plan_table as plan_table_contract
 use Rattle.plan.proofs.plan_table as plan_table_proof
 use Rattle.sheet.specs.contracts.write_plan as write_plan_contract
 use Rattle.sheet.proofs.write_plan as write_plan_proof
+use Rattle.arrivals.specs.contracts.Fault.number as fault_number_contract
+use Rattle.arrivals.proofs.Fault.number as fault_number_proof
 use Rattle.arrivals.specs.contracts.check_arrivals as check_arrivals_contract
 use Rattle.arrivals.proofs.check_arrivals as check_arrivals_proof
-use Rattle.arrivals.specs.contracts.comes as comes_contract
-use Rattle.arrivals.proofs.comes as comes_proof
-use Rattle.arrivals.specs.contracts.lens_at as lens_at_contract
-use Rattle.arrivals.proofs.lens_at as lens_at_proof
+use Rattle.arrivals.specs.contracts.brought as brought_contract
+use Rattle.arrivals.proofs.brought as brought_proof
 use Rattle.chain.specs.contracts.release_job as release_job_contract
 use Rattle.chain.proofs.release_job as release_job_proof
 use Rattle.chain.specs.contracts.due_of as due_of_contract
@@ -73,16 +78,14 @@ use Rattle.chain.specs.contracts.push as push_contract
 use Rattle.chain.proofs.push as push_proof
 use Rattle.chain.specs.contracts.owed as owed_contract
 use Rattle.chain.proofs.owed as owed_proof
-use Rattle.jobs.specs.contracts.no_jobs as no_jobs_contract
-use Rattle.jobs.proofs.no_jobs as no_jobs_proof
 use Rattle.jobs.specs.contracts.job_at as job_at_contract
 use Rattle.jobs.proofs.job_at as job_at_proof
 use Rattle.jobs.specs.contracts.put_job as put_job_contract
 use Rattle.jobs.proofs.put_job as put_job_proof
 use Rattle.picks.specs.contracts.picks as picks_contract
 use Rattle.picks.proofs.picks as picks_proof
-use Rattle.machine.specs.contracts.no_threes as no_threes_contract
-use Rattle.machine.proofs.no_threes as no_threes_proof
+use Rattle.machine.specs.contracts.State.start as start_contract
+use Rattle.machine.proofs.State.start as start_proof
 use Rattle.machine.specs.contracts.chart_of as chart_of_contract
 use Rattle.machine.proofs.chart_of as chart_of_proof
 use Rattle.machine.specs.contracts.soonest as soonest_contract
@@ -104,14 +107,9 @@ use Rattle.kieferntuch.proofs.kieferntuch_read as kieferntuch_read_proof
 use Rattle.kieferntuch.specs.contracts.kieferntuch_plan as kieferntuch_plan_contract
 use Rattle.kieferntuch.proofs.kieferntuch_plan as kieferntuch_plan_proof
 
-no_column_settled : Settles no_column_contract.ended no_column_proof.Reads.Pre no_column_proof.Reads.Post
-no_column_settled κs a r s h p q = (p ∙ sym q, refl)
-
-no_numbered_settled : Settles no_numbered_contract.ended no_numbered_proof.Reads.Pre no_numbered_proof.Reads.Post
-no_numbered_settled κs a r s h p q = (p ∙ sym q, refl)
-
-one_if_settled : Settles one_if_contract.ended one_if_proof.Reads.Pre one_if_proof.Reads.Post
-one_if_settled κs a r s h p q = (p.0 ∙ sym q.0, refl)
+-- of every size
+blank_settled : (n : _) (fits : Fits w64 n) → Settles (blank_contract.ended (number n)) (blank_proof.Reads.Pre n fits) (blank_proof.Reads.Post n fits)
+blank_settled n fits κs a r s h p q = (p ∙ sym q, refl)
 
 smaller_settled : Settles smaller_contract.ended smaller_proof.Reads.Pre smaller_proof.Reads.Post
 smaller_settled κs a r s h p q = (p ∙ sym q, refl)
@@ -143,20 +141,26 @@ in_rows_settled κs a r s h p q = (p ∙ sym q, refl)
 numbers_to_settled : Settles numbers_to_contract.ended numbers_to_proof.Reads.Pre numbers_to_proof.Reads.Post
 numbers_to_settled κs a r s h p q = (p ∙ sym q, refl)
 
+refusal_number_settled : Settles refusal_number_contract.ended refusal_number_proof.Reads.Pre refusal_number_proof.Reads.Post
+refusal_number_settled κs a r s h p q = (p ∙ sym q, refl)
+
+refusal_names_settled : Settles refusal_names_contract.ended refusal_names_proof.Reads.Pre refusal_names_proof.Reads.Post
+refusal_names_settled κs a r s h p q = (p ∙ sym q, refl)
+
 read_table_settled : Settles read_table_contract.ended read_table_proof.Reads.Pre read_table_proof.Reads.Post
 read_table_settled κs a r s h p q = (p ∙ sym q, refl)
 
 refusal_of_settled : Settles refusal_of_contract.ended refusal_of_proof.Reads.Pre refusal_of_proof.Reads.Post
 refusal_of_settled κs a r s h p q = (p ∙ sym q, refl)
 
+new_settled : Settles new_contract.ended new_proof.Reads.Pre new_proof.Reads.Post
+new_settled κs a r s h p q = (λ i. record { terms = (p.0 ∙ sym q.0) i; count = (p.1 ∙ sym q.1) i }, refl)
+
 bound_on_settled : Settles bound_on_contract.ended bound_on_proof.Reads.Pre bound_on_proof.Reads.Post
 bound_on_settled κs a r s h p q = (p ∙ sym q, refl)
 
-add_term_settled : Settles add_term_contract.ended add_term_proof.Reads.Pre add_term_proof.Reads.Post
-add_term_settled κs a r s h p q = (refl, λ i. ((p.0 ∙ sym q.0) i, ((p.1 ∙ sym q.1) i, ((p.2 ∙ sym q.2) i, (tt, (tt, (tt, tt)))))))
-
-no_lanes_settled : Settles no_lanes_contract.ended no_lanes_proof.Reads.Pre no_lanes_proof.Reads.Post
-no_lanes_settled κs a r s h p q = (p ∙ sym q, refl)
+add_settled : Settles add_contract.ended add_proof.Reads.Pre add_proof.Reads.Post
+add_settled κs a r s h p q = (refl, λ i. (record { terms = (p.0 ∙ sym q.0) i; count = (p.1 ∙ sym q.1) i }, (tt, (tt, tt))))
 
 section_bounds_settled : Settles section_bounds_contract.ended section_bounds_proof.Reads.Pre section_bounds_proof.Reads.Post
 section_bounds_settled κs a r s h p q = (p ∙ sym q, refl)
@@ -176,6 +180,9 @@ heaviest_settled κs a r s h p q = (p ∙ sym q, refl)
 serve_settled : Settles serve_contract.ended serve_proof.Reads.Pre serve_proof.Reads.Post
 serve_settled κs a r s h p q = (p ∙ sym q, refl)
 
+mark_number_settled : Settles mark_number_contract.ended mark_number_proof.Reads.Pre mark_number_proof.Reads.Post
+mark_number_settled κs a r s h p q = (p ∙ sym q, refl)
+
 of_resource_settled : Settles of_resource_contract.ended of_resource_proof.Reads.Pre of_resource_proof.Reads.Post
 of_resource_settled κs a r s h p q = (p ∙ sym q, refl)
 
@@ -183,16 +190,16 @@ plan_table_settled : Settles plan_table_contract.ended plan_table_proof.Reads.Pr
 plan_table_settled κs a r s h p q = (p ∙ sym q, refl)
 
 write_plan_settled : Settles write_plan_contract.ended write_plan_proof.Reads.Pre write_plan_proof.Reads.Post
-write_plan_settled κs a r s h p q = (refl, λ i. ((p ∙ sym q) i, (tt, (tt, (tt, (tt, (tt, (tt, (tt, (tt, tt))))))))))
+write_plan_settled κs a r s h p q = (refl, λ i. ((p ∙ sym q) i, (tt, (tt, (tt, tt)))))
+
+fault_number_settled : Settles fault_number_contract.ended fault_number_proof.Reads.Pre fault_number_proof.Reads.Post
+fault_number_settled κs a r s h p q = (p ∙ sym q, refl)
 
 check_arrivals_settled : Settles check_arrivals_contract.ended check_arrivals_proof.Reads.Pre check_arrivals_proof.Reads.Post
 check_arrivals_settled κs a r s h p q = (p ∙ sym q, refl)
 
-comes_settled : Settles comes_contract.ended comes_proof.Reads.Pre comes_proof.Reads.Post
-comes_settled κs a r s h p q = (p ∙ sym q, refl)
-
-lens_at_settled : Settles lens_at_contract.ended lens_at_proof.Reads.Pre lens_at_proof.Reads.Post
-lens_at_settled κs a r s h p q = (p ∙ sym q, refl)
+brought_settled : Settles brought_contract.ended brought_proof.Reads.Pre brought_proof.Reads.Post
+brought_settled κs a r s h p q = (p ∙ sym q, refl)
 
 release_job_settled : Settles release_job_contract.ended release_job_proof.Reads.Pre release_job_proof.Reads.Post
 release_job_settled κs a r s h p q = (λ i. record { job = (p.0 ∙ sym q.0) i; late = (p.1 ∙ sym q.1) i }, refl)
@@ -212,9 +219,6 @@ push_settled κs a r s h p q = (p ∙ sym q, refl)
 owed_settled : Settles owed_contract.ended owed_proof.Reads.Pre owed_proof.Reads.Post
 owed_settled κs a r s h p q = (p.0 ∙ sym q.0, refl)
 
-no_jobs_settled : Settles no_jobs_contract.ended no_jobs_proof.Reads.Pre no_jobs_proof.Reads.Post
-no_jobs_settled κs a r s h p q = (p ∙ sym q, refl)
-
 job_at_settled : Settles job_at_contract.ended job_at_proof.Reads.Pre job_at_proof.Reads.Post
 job_at_settled κs a r s h p q = (p ∙ sym q, refl)
 
@@ -224,8 +228,8 @@ put_job_settled κs a r s h p q = (refl, λ i. ((p ∙ sym q) i, (tt, (tt, tt)))
 picks_settled : Settles picks_contract.ended picks_proof.Reads.Pre picks_proof.Reads.Post
 picks_settled κs a r s h p q = (p ∙ sym q, refl)
 
-no_threes_settled : Settles no_threes_contract.ended no_threes_proof.Reads.Pre no_threes_proof.Reads.Post
-no_threes_settled κs a r s h p q = (p ∙ sym q, refl)
+start_settled : Settles start_contract.ended start_proof.Reads.Pre start_proof.Reads.Post
+start_settled κs a r s h p q = (p ∙ sym q, refl)
 
 chart_of_settled : Settles chart_of_contract.ended chart_of_proof.Reads.Pre chart_of_proof.Reads.Post
 chart_of_settled κs a r s h p q = (p ∙ sym q, refl)
@@ -246,7 +250,7 @@ count_up_settled : Settles count_up_contract.ended count_up_proof.Reads.Pre coun
 count_up_settled κs a r s h p q = (p ∙ sym q, refl)
 
 run_flat_settled : Settles run_flat_contract.ended run_flat_proof.Reads.Pre run_flat_proof.Reads.Post
-run_flat_settled κs a r s h p q = (p.0 ∙ sym q.0, λ i. (tt, (tt, (tt, (tt, (tt, ((p.1 ∙ sym q.1) i, tt)))))))
+run_flat_settled κs a r s h p q = (p.0 ∙ sym q.0, λ i. (tt, (tt, (tt, (tt, ((p.1 ∙ sym q.1) i, tt))))))
 
 write_listing_settled : Settles write_listing_contract.ended write_listing_proof.Reads.Pre write_listing_proof.Reads.Post
 write_listing_settled κs a r s h p q = (p.0.ends ∙ sym q.0.ends, λ i. (tt, ((p.0.bytes ∙ sym q.0.bytes) i, tt)))

@@ -7,11 +7,16 @@ use mathlib.Core.Logic.{dite}
 use native.Mathlib.Omega.{arith}
 use native.Mathlib.Decide.{dec_lt}
 use borrow.Author.Tests.{eqb-false, ne_eqb, lt-ltb, le-ltb}
+use Rattle.std.specs.Prelude.{Option, Some, None, is_some}
 use lib.Dec.{eqb, eqb-suc-zero}
 use lib.ListN.{length, get_or, set, length-append}
 use lib.Seq.{sets}
+use mir.Syntax.{w64}
+use mir.Val.{Fits}
 use contract.Lifetimes.{Lfts}
+use contract.BorrowLft.{⊑_static}
 use denote.Bor.{Bor}
+use denote.Param.{number}
 use denote.MutBor.{MutBor}
 use denote.Triple.Entry.{Args}
 use denote.Triple.Clauses.{Ended}
@@ -22,13 +27,16 @@ use Rattle.lists.proofs.Tab.{length-blank, get_or-filled, get_or-rest}
 use Rattle.rank.specs.Rank.{rank_of, ranks_of}
 use Rattle.rank.specs.Order.{in_rank, in_rows, numbers_to}
 use Rattle.table.specs.declared.Table.{Table}
-use Rattle.table.specs.Table.{header_number, ranked, reading_of}
+use Rattle.table.specs.Table.{header_number, header_refusal, number_of as refusal_number, ranked, reading_of}
 use Rattle.table.specs.Good.{GoodTask, task_at, GoodTable}
 use Rattle.table.proofs.Given.{PCP, Q, written}
+use Rattle.bounds.specs.Demand.{Term, no_term}
 use Rattle.spread.specs.Weight.{used_of, lacks_of, heaviest_of}
+use Rattle.plan.specs.declared.Mark.TheVariants.{Stage}
 use Rattle.plan.specs.declared.Plan.{Plan}
 use Rattle.plan.proofs.Given.{planning}
 use Rattle.arrivals.specs.declared.Arrival.{Arrival}
+use Rattle.arrivals.specs.declared.Flat.{Flat}
 use Rattle.arrivals.specs.Arrival.{is_of, arrival_in, arrivals_of, flat_of}
 use Rattle.chain.specs.declared.Place.TheVariants.{Running}
 use Rattle.chain.specs.declared.Job.{Job}
@@ -38,12 +46,15 @@ use Rattle.chain.specs.Unit.{mark, unit_of, pushed, push_at}
 use Rattle.chain.specs.Owed.{lens_from, owes}
 use Rattle.chain.specs.Good.{GoodBounds, part_of, GoodJob}
 use Rattle.jobs.specs.Numbers.{code_of, number_of, place_in, numbers_of, job_in, jobs_in}
+use Rattle.machine.specs.Start.{start}
 use Rattle.machine.specs.Chart.{chart, threes, tops_of, chart_of}
 use Rattle.machine.specs.Good.{soonest_of}
 use Rattle.machine.specs.Tick.{serve_at, kind_of, byte_of, noted_at}
 use Rattle.run.specs.Run.{refused}
 use Rattle.run.specs.Answer.{table_answer, run_answer, trace_after}
 use Rattle.kieferntuch.specs.Answer.{answer, plan_answer}
+use Rattle.lists.specs.contracts.blank as blank_contract
+use Rattle.lists.proofs.blank as blank_proof
 use Rattle.lists.specs.contracts.smaller as smaller_contract
 use Rattle.lists.proofs.smaller as smaller_proof
 use Rattle.lists.specs.contracts.store as store_contract
@@ -56,21 +67,23 @@ use Rattle.rank.specs.contracts.in_rows as in_rows_contract
 use Rattle.rank.proofs.in_rows as in_rows_proof
 use Rattle.rank.specs.contracts.numbers_to as numbers_to_contract
 use Rattle.rank.proofs.numbers_to as numbers_to_proof
-use Rattle.bounds.specs.contracts.add_term as add_term_contract
-use Rattle.bounds.proofs.add_term as add_term_proof
-use Rattle.bounds.specs.contracts.no_lanes as no_lanes_contract
-use Rattle.bounds.proofs.no_lanes as no_lanes_proof
+use Rattle.table.specs.contracts.refusal_of as refusal_of_contract
+use Rattle.table.proofs.refusal_of as refusal_of_proof
+use Rattle.bounds.specs.contracts.Lanes.new as new_contract
+use Rattle.bounds.proofs.Lanes.new as new_proof
+use Rattle.bounds.specs.contracts.Lanes.add as add_contract
+use Rattle.bounds.proofs.Lanes.add as add_proof
 use Rattle.spread.specs.contracts.used as used_contract
 use Rattle.spread.proofs.used as used_proof
 use Rattle.spread.specs.contracts.heaviest as heaviest_contract
 use Rattle.spread.proofs.heaviest as heaviest_proof
+use Rattle.plan.specs.contracts.Mark.number as mark_number_contract
+use Rattle.plan.proofs.Mark.number as mark_number_proof
 use Rattle.plan.specs.contracts.of_resource as of_resource_contract
 use Rattle.plan.proofs.of_resource as of_resource_proof
 use Rattle.arrivals.specs.contracts.taken_apart as taken_apart_contract
-use Rattle.arrivals.specs.contracts.comes as comes_contract
-use Rattle.arrivals.proofs.comes as comes_proof
-use Rattle.arrivals.specs.contracts.lens_at as lens_at_contract
-use Rattle.arrivals.proofs.lens_at as lens_at_proof
+use Rattle.arrivals.specs.contracts.brought as brought_contract
+use Rattle.arrivals.proofs.brought as brought_proof
 use Rattle.chain.specs.contracts.due_of as due_of_contract
 use Rattle.chain.proofs.due_of as due_of_proof
 use Rattle.chain.specs.contracts.response as response_contract
@@ -79,14 +92,12 @@ use Rattle.chain.specs.contracts.push as push_contract
 use Rattle.chain.proofs.push as push_proof
 use Rattle.chain.specs.contracts.owed as owed_contract
 use Rattle.chain.proofs.owed as owed_proof
-use Rattle.jobs.specs.contracts.no_jobs as no_jobs_contract
-use Rattle.jobs.proofs.no_jobs as no_jobs_proof
 use Rattle.jobs.specs.contracts.job_at as job_at_contract
 use Rattle.jobs.proofs.job_at as job_at_proof
 use Rattle.jobs.specs.contracts.put_job as put_job_contract
 use Rattle.jobs.proofs.put_job as put_job_proof
-use Rattle.machine.specs.contracts.no_threes as no_threes_contract
-use Rattle.machine.proofs.no_threes as no_threes_proof
+use Rattle.machine.specs.contracts.State.start as start_contract
+use Rattle.machine.proofs.State.start as start_proof
 use Rattle.machine.specs.contracts.chart_of as chart_of_contract
 use Rattle.machine.proofs.chart_of as chart_of_proof
 use Rattle.machine.specs.contracts.soonest as soonest_contract
@@ -141,6 +152,30 @@ below (x ∷ xs) (suc k) = omega (arith, below xs k)
 
 -- ---- lists
 
+-- `blank 0` with n places is not this list
+abbrev AtBlank : (n : ℕ) (κs : Lfts (blank_contract.ended (number n)).signature.lifetimes) → List ℕ → Type 0
+AtBlank n κs xs = (fits : Fits w64 n) → RuledOut (blank_contract.ended (number n)) (blank_proof.Reads.Pre n fits) (blank_proof.Reads.Post n fits) κs (0, tt) (xs, _)
+
+-- `blank`: another number at each place, of an array that is to hold 0
+module _ (κs : _) (x : ℕ) where
+  jobs_of_another_number : AtBlank 576 κs (blank 576 (suc x))
+  unfolding blank
+  jobs_of_another_number fits = ((⊑_static κs.0, omega arith), at 0 (eqb-suc-zero x))
+
+  threes_of_another_number : AtBlank 192 κs (blank 192 (suc x))
+  unfolding blank
+  threes_of_another_number fits = ((⊑_static κs.0, omega arith), at 0 (eqb-suc-zero x))
+
+-- `blank`: the last place left out
+module _ (κs : _) where
+  jobs_but_the_last : AtBlank 576 κs (set (blank 576 0) 575 1)
+  unfolding blank
+  jobs_but_the_last fits = ((⊑_static κs.0, omega arith), at 575 refl)
+
+  threes_but_the_last : AtBlank 192 κs (set (blank 192 0) 191 1)
+  unfolding blank
+  threes_but_the_last fits = ((⊑_static κs.0, omega arith), at 191 refl)
+
 -- `smaller`: the first of two numbers, whichever it is
 first_for_smaller : (κs : _) → RuledOut smaller_contract.ended smaller_proof.Reads.Pre smaller_proof.Reads.Post κs (2, (1, tt)) (2, _)
 first_for_smaller κs = (tt, seen (λ x. x) refl)
@@ -186,33 +221,43 @@ one_number_too_many κs n h =
     let number : ℕ → ℕ = λ i. i + 1 in
     (omega arith, λ p. omega (arith, ap (λ (r : List ℕ). get_or r n 0) p, get_or-filled 64 0 number (n + 1) n 0 (omega arith), get_or-rest 64 0 number n n 0 (omega arith) h))
 
+-- ---- table
+
+-- `refusal_of`: no bytes pass for a table
+no_bytes_pass : (κs : _) → RuledOut refusal_of_contract.ended refusal_of_proof.Reads.Pre refusal_of_proof.Reads.Post κs (lent 1 [], tt) (None, _)
+unfolding header_number reading_of
+no_bytes_pass κs = (tt, seen (λ o. cond (is_some o) 1 0) refl)
+
 -- ---- bounds
 
 -- the first term of lane 1, of period 10 and length 2
-abbrev first_term : (κs : Lfts (add_term_contract.ended).signature.lifetimes) → Args (add_term_contract.ended).signature κs
-first_term κs = (lent_mut 1 (blank 1088 0), (lent_mut 2 (blank 1088 0), (lent_mut 3 (blank 17 0), (1, (10, (2, tt))))))
+abbrev term : Term
+term = record { period = 10; len = 2 }
 
--- `add_term`: the term is stored, and the count of the lane stays
-lane_count_kept : (κs : _) → RuledOut add_term_contract.ended add_term_proof.Reads.Pre add_term_proof.Reads.Post κs
-    (first_term κs) (tt, (set (blank 1088 0) 64 10, (set (blank 1088 0) 64 2, (blank 17 0, _))))
-unfolding blank
-lane_count_kept κs = ((omega arith, omega arith, refl, refl), λ p. at 1 refl p.2)
+abbrev first_term : (κs : Lfts (add_contract.ended).signature.lifetimes) → Args (add_contract.ended).signature κs
+first_term κs = (lent_mut 1 (record { terms = blank 1088 no_term; count = blank 17 0 }), (1, (term, tt)))
 
--- `add_term`: the term is stored in the lane beside it
-term_in_lane_beside : (κs : _) → RuledOut add_term_contract.ended add_term_proof.Reads.Pre add_term_proof.Reads.Post κs
-    (first_term κs) (tt, (set (blank 1088 0) 0 10, (set (blank 1088 0) 0 2, (set (blank 17 0) 1 1, _))))
+-- `add`: the term is stored, and the count of the lane stays
+lane_count_kept : (κs : _) → RuledOut add_contract.ended add_proof.Reads.Pre add_proof.Reads.Post κs
+    (first_term κs) (tt, (record { terms = set (blank 1088 no_term) 64 term; count = blank 17 0 }, _))
 unfolding blank
-term_in_lane_beside κs = ((omega arith, omega arith, refl, refl), λ p. at 64 refl p.0)
+lane_count_kept κs = ((omega arith, omega arith), λ p. at 1 refl p.1)
 
--- `no_lanes`: another number at each place
-lanes_of_another_number : (κs : _) (x : ℕ) → RuledOut no_lanes_contract.ended no_lanes_proof.Reads.Pre no_lanes_proof.Reads.Post κs tt (blank 1088 (suc x), _)
+-- `add`: the term is stored in the lane beside it
+term_in_lane_beside : (κs : _) → RuledOut add_contract.ended add_proof.Reads.Pre add_proof.Reads.Post κs
+    (first_term κs) (tt, (record { terms = set (blank 1088 no_term) 0 term; count = set (blank 17 0) 1 1 }, _))
 unfolding blank
-lanes_of_another_number κs x = (tt, at 0 (eqb-suc-zero x))
+term_in_lane_beside κs = ((omega arith, omega arith), λ p. seen (λ r. (get_or r 64 no_term).period) refl p.0)
 
--- `no_lanes`: the last place left out
-lanes_but_the_last : (κs : _) → RuledOut no_lanes_contract.ended no_lanes_proof.Reads.Pre no_lanes_proof.Reads.Post κs tt (set (blank 1088 0) 1087 1, _)
+-- `new`: another number at each place
+lanes_of_another_number : (κs : _) (x : ℕ) → RuledOut new_contract.ended new_proof.Reads.Pre new_proof.Reads.Post κs tt (record { terms = blank 1088 (record { period = suc x; len = suc x }); count = blank 17 0 }, _)
 unfolding blank
-lanes_but_the_last κs = (tt, at 1087 refl)
+lanes_of_another_number κs x = (tt, λ p. seen (λ r. (get_or r 0 no_term).period) (eqb-suc-zero x) p.0)
+
+-- `new`: the last place left out
+lanes_but_the_last : (κs : _) → RuledOut new_contract.ended new_proof.Reads.Pre new_proof.Reads.Post κs tt (record { terms = set (blank 1088 no_term) 1087 term; count = blank 17 0 }, _)
+unfolding blank
+lanes_but_the_last κs = (tt, λ p. seen (λ r. (get_or r 1087 no_term).period) refl p.0)
 
 -- ---- spread
 
@@ -232,6 +277,10 @@ unfolding blank filled tab first count rank_of ranks_of in_rank numbers_to lacks
 lightest_first κs = ((λ r h. omega (arith, below weight r)), at 0 refl)
 
 -- ---- plan
+
+-- `Mark::number`: every mark is 1
+stages_marked_1 : (κs : _) → RuledOut mark_number_contract.ended mark_number_proof.Reads.Pre mark_number_proof.Reads.Post κs (Stage, tt) (1, _)
+stages_marked_1 κs = (tt, seen (λ x. x) refl)
 
 -- the ceilings of resources 1 and 2, and two rows: the first names no resource, the second resource 2
 abbrev ceiling : List ℕ
@@ -259,35 +308,39 @@ row_before_tick : (κs : _) → RuledOut taken_apart_contract.ended apart_asks a
     (lent 1 (record { tick = 5; row = 1; len1 = 2; len2 = 3; len3 = 4 } ∷ []), (lent_mut 2 (array 20480 []), tt))
     (tt, (_, (array 20480 (1 ∷ 5 ∷ 2 ∷ 3 ∷ 4 ∷ []), _)))
 unfolding blank joined flat_of
-row_before_tick κs = (length_array 20480 [] (omega arith), at 0 refl)
+row_before_tick κs = (tt, at 0 refl)
 
--- two arrivals as numbers: row 1 at tick 5 with 2, 3, 4, and row 2 at tick 6 with 7, 8, 9
-abbrev flat : List ℕ
-flat = array 20480 (5 ∷ 1 ∷ 2 ∷ 3 ∷ 4 ∷ 6 ∷ 2 ∷ 7 ∷ 8 ∷ 9 ∷ [])
+-- `count` of two arrivals as numbers: row 1 at tick 5 with 2, 3, 4, and row 2 at tick 6 with 7, 8, 9
+abbrev flat : ℕ → Flat
+flat count = record { numbers = array 20480 (5 ∷ 1 ∷ 2 ∷ 3 ∷ 4 ∷ 6 ∷ 2 ∷ 7 ∷ 8 ∷ 9 ∷ []); count = count }
 
-flat_whole : length flat ≡ 20480
-flat_whole = length_array 20480 (5 ∷ 1 ∷ 2 ∷ 3 ∷ 4 ∷ 6 ∷ 2 ∷ 7 ∷ 8 ∷ 9 ∷ []) (omega arith)
+-- the first length of what comes; 0 if nothing does
+abbrev length_of : Option (List ℕ) → ℕ
+length_of None = 0
+length_of (Some lens) = get_or lens 0 0
 
--- `comes`: an arrival behind the last one comes
-comes_behind_the_last : (κs : _) → RuledOut comes_contract.ended comes_proof.Reads.Pre comes_proof.Reads.Post κs
-    (lent 1 flat, (1, (1, (6, (1, tt))))) (true, _)
-comes_behind_the_last κs = ((omega arith, omega arith, flat_whole), seen (λ b. cond b 1 0) refl)
+-- `brought`: an arrival behind the last one comes
+comes_behind_the_last : (κs : _) → RuledOut brought_contract.ended brought_proof.Reads.Pre brought_proof.Reads.Post κs
+    (lent 1 (flat 1), (1, (6, (1, tt)))) (Some (7 ∷ 8 ∷ 9 ∷ []), _)
+comes_behind_the_last κs = ((omega arith, omega arith), seen length_of refl)
 
--- `comes`: the row is compared, and the tick is not
-comes_at_any_tick : (κs : _) → RuledOut comes_contract.ended comes_proof.Reads.Pre comes_proof.Reads.Post κs (lent 1 flat, (2, (0, (6, (0, tt))))) (true, _)
+-- `brought`: the row is compared, and the tick is not
+comes_at_any_tick : (κs : _) → RuledOut brought_contract.ended brought_proof.Reads.Pre brought_proof.Reads.Post κs
+    (lent 1 (flat 2), (0, (6, (0, tt)))) (Some (2 ∷ 3 ∷ 4 ∷ []), _)
 unfolding tab is_of arrival_in arrivals_of
-comes_at_any_tick κs = ((omega arith, omega arith, flat_whole), seen (λ b. cond b 1 0) refl)
+comes_at_any_tick κs = ((omega arith, omega arith), seen length_of refl)
 
--- `lens_at`: the lengths of the next arrival
-lens_of_the_next : (κs : _) → RuledOut lens_at_contract.ended lens_at_proof.Reads.Pre lens_at_proof.Reads.Post κs
-    (lent 1 flat, (2, (0, tt))) (7 ∷ 8 ∷ 9 ∷ [], _)
-unfolding tab arrival_in arrivals_of
-lens_of_the_next κs = ((omega arith, omega arith, flat_whole), at 0 refl)
+-- `brought`: the lengths of the next arrival
+lens_of_the_next : (κs : _) → RuledOut brought_contract.ended brought_proof.Reads.Pre brought_proof.Reads.Post κs
+    (lent 1 (flat 2), (0, (5, (0, tt)))) (Some (7 ∷ 8 ∷ 9 ∷ []), _)
+unfolding tab is_of arrival_in arrivals_of
+lens_of_the_next κs = ((omega arith, omega arith), seen length_of refl)
 
--- `lens_at`: the lengths of the two stages change places
-lens_swapped : (κs : _) → RuledOut lens_at_contract.ended lens_at_proof.Reads.Pre lens_at_proof.Reads.Post κs (lent 1 flat, (2, (0, tt))) (4 ∷ 3 ∷ 2 ∷ [], _)
-unfolding tab arrival_in arrivals_of
-lens_swapped κs = ((omega arith, omega arith, flat_whole), at 0 refl)
+-- `brought`: the lengths of the two stages change places
+lens_swapped : (κs : _) → RuledOut brought_contract.ended brought_proof.Reads.Pre brought_proof.Reads.Post κs
+    (lent 1 (flat 2), (0, (5, (0, tt)))) (Some (4 ∷ 3 ∷ 2 ∷ []), _)
+unfolding tab is_of arrival_in arrivals_of
+lens_swapped κs = ((omega arith, omega arith), seen length_of refl)
 
 -- ---- chain
 
@@ -333,39 +386,28 @@ whole_part_owed κs = (good_job, λ p. seen (λ u. u) refl p.0)
 
 -- ---- jobs
 
--- `no_jobs`: another number at each place
-jobs_of_another_number : (κs : _) (x : ℕ) → RuledOut no_jobs_contract.ended no_jobs_proof.Reads.Pre no_jobs_proof.Reads.Post κs tt (blank 576 (suc x), _)
-unfolding blank
-jobs_of_another_number κs x = (tt, at 0 (eqb-suc-zero x))
-
--- `no_jobs`: the last place left out
-jobs_but_the_last : (κs : _) → RuledOut no_jobs_contract.ended no_jobs_proof.Reads.Pre no_jobs_proof.Reads.Post κs tt (set (blank 576 0) 575 1, _)
-unfolding blank
-jobs_but_the_last κs = (tt, at 575 refl)
-
 -- `job_at`: the begun mark and the jobs ended change places
 begun_and_ended_swapped : (κs : _) → RuledOut job_at_contract.ended job_at_proof.Reads.Pre job_at_proof.Reads.Post κs
     (lent 1 (array 576 (4 ∷ 3 ∷ 10 ∷ 4 ∷ 3 ∷ 2 ∷ 11 ∷ 1 ∷ 10 ∷ [])), (0, tt)) (job 3 1 11 10, _)
 unfolding blank job_in
-begun_and_ended_swapped κs = ((omega arith, refl), seen (λ x. x.begun) refl)
+begun_and_ended_swapped κs = (omega arith, seen (λ x. x.begun) refl)
 
 -- `put_job`: ten numbers are written, the last of them over the next row's first
 next_row_overwritten : (κs : _) → RuledOut put_job_contract.ended put_job_proof.Reads.Pre put_job_proof.Reads.Post κs
     (lent_mut 1 (blank 576 1), (0, (no_job, tt))) (tt, (sets (blank 576 1) 0 (blank 10 0), _))
 unfolding blank code_of number_of numbers_of
-next_row_overwritten κs = ((omega arith, refl, omega arith), at 9 refl)
+next_row_overwritten κs = ((omega arith, omega arith), at 9 refl)
 
 -- ---- machine
 
--- `no_threes`: another number at each place
-threes_of_another_number : (κs : _) (x : ℕ) → RuledOut no_threes_contract.ended no_threes_proof.Reads.Pre no_threes_proof.Reads.Post κs tt (blank 192 (suc x), _)
+-- `State::start`: a release is due in tick 0
+due_at_the_start : (κs : _) → RuledOut start_contract.ended start_proof.Reads.Pre start_proof.Reads.Post κs tt (record start { due = blank 64 0 }, _)
 unfolding blank
-threes_of_another_number κs x = (tt, at 0 (eqb-suc-zero x))
+due_at_the_start κs = (tt, seen (λ s. get_or s.due 0 0) refl)
 
--- `no_threes`: the last place left out
-threes_but_the_last : (κs : _) → RuledOut no_threes_contract.ended no_threes_proof.Reads.Pre no_threes_proof.Reads.Post κs tt (set (blank 192 0) 191 1, _)
-unfolding blank
-threes_but_the_last κs = (tt, at 191 refl)
+-- `State::start`: the first arrival has come already
+first_arrival_skipped : (κs : _) → RuledOut start_contract.ended start_proof.Reads.Pre start_proof.Reads.Post κs tt (record start { next = 1 }, _)
+first_arrival_skipped κs = (tt, seen (λ s. s.next) refl)
 
 -- a table of one row, (10, 1, 2, 1, 1), and a plan of it: the section on processor 1, the stages on processor 2
 abbrev row : ℕ → List ℕ
@@ -387,23 +429,23 @@ good_table = record { rows = (omega arith, omega arith); processors = (omega ari
 
 -- `chart_of`: the section on the processor of the stages
 section_among_stages : (κs : _) → RuledOut chart_of_contract.ended chart_of_proof.Reads.Pre chart_of_proof.Reads.Post κs
-    (table, (plan, tt)) (chart 1 2 (array 192 (1 ∷ 2 ∷ 1 ∷ [])) (array 192 (2 ∷ 2 ∷ 2 ∷ [])) table.rank (tops_of table), _)
+    (lent 1 table, (lent 2 plan, tt)) (chart 1 2 (array 192 (1 ∷ 2 ∷ 1 ∷ [])) (array 192 (2 ∷ 2 ∷ 2 ∷ [])) table.rank (tops_of table), _)
 unfolding blank filled tab joined ranked threes chart_of
 section_among_stages κs = (good_table, seen (λ c. get_or c.homes 1 0) refl)
 
 -- `soonest`: the latest of the ticks
 latest_for_soonest : (κs : _) → RuledOut soonest_contract.ended soonest_proof.Reads.Pre soonest_proof.Reads.Post κs (lent 1 (array 64 (5 ∷ 7 ∷ [])), (2, tt)) (7, _)
 unfolding blank soonest_of
-latest_for_soonest κs = ((omega arith, refl), seen (λ t. t) refl)
+latest_for_soonest κs = (omega arith, seen (λ t. t) refl)
 
 -- `soonest`: later than every tick, whatever is due
 never_for_soonest : (κs : _) → RuledOut soonest_contract.ended soonest_proof.Reads.Pre soonest_proof.Reads.Post κs (lent 1 (array 64 (5 ∷ 7 ∷ [])), (2, tt)) (never, _)
 unfolding blank soonest_of
-never_for_soonest κs = ((omega arith, refl), seen (λ t. t) refl)
+never_for_soonest κs = (omega arith, seen (λ t. t) refl)
 
 -- `serve_job`: two units in one tick
 two_units : (κs : _) → RuledOut serve_job_contract.ended serve_job_proof.Reads.Pre serve_job_proof.Reads.Post κs
-    (job 3 11 0 1, (0, (lent 1 (array 17 (0 ∷ 1 ∷ [])), (lent 2 bounds, (lent 3 (blank 192 1), (11, tt)))))) (job 1 11 0 3, _)
+    (job 3 11 0 1, (0, (lent 1 (array 17 (0 ∷ 1 ∷ [])), (lent 2 (chart 1 2 bounds (blank 192 1) (blank 64 0) (blank 64 0)), (11, tt))))) (job 1 11 0 3, _)
 unfolding blank mark unit_of serve_at
 two_units κs = ((omega arith, omega arith, good_bounds, (λ k. omega (arith, below (blank 192 1) k)), good_job, omega arith, omega arith), seen (λ x. x.ran) refl)
 
@@ -411,7 +453,7 @@ two_units κs = ((omega arith, omega arith, good_bounds, (λ k. omega (arith, be
 smaller_response_kept : (κs : _) → RuledOut note_contract.ended note_proof.Reads.Pre note_proof.Reads.Post κs
     (job 1 11 0 3, (0, (lent 1 bounds, (13, (lent_mut 2 (array 192 (1 ∷ [])), tt))))) (tt, (_, (_, (_, (_, (array 192 (1 ∷ []), _))))))
 unfolding blank off noted_at
-smaller_response_kept κs = ((omega arith, omega arith, good_bounds, good_job, refl), at 0 refl)
+smaller_response_kept κs = ((omega arith, omega arith, good_bounds, good_job), at 0 refl)
 
 -- row 1 runs its stage one, row 2 runs its section, and the other rows are idle
 abbrev jobs : List ℕ
@@ -433,14 +475,14 @@ good_in flat h i = record { arrived = omega (arith, below flat (9 * i + 2)); par
 bytes_from_processor_0 : (κs : _) → RuledOut show_contract.ended show_proof.Reads.Pre show_proof.Reads.Post κs
     (lent 1 jobs, (lent 2 (array 17 (0 ∷ 1 ∷ 2 ∷ [])), (lent_mut 3 (blank 2 0), tt))) (tt, (_, (_, (0x00 ∷ 0x40 ∷ [], _))))
 unfolding blank tab place_in job_in jobs_in kind_of byte_of
-bytes_from_processor_0 κs = ((refl, omega arith, (λ q. omega (arith, below (array 17 (0 ∷ 1 ∷ 2 ∷ [])) q)), λ i h. good_in jobs (omega arith) i), at 0 refl)
+bytes_from_processor_0 κs = ((omega arith, (λ q. omega (arith, below (array 17 (0 ∷ 1 ∷ 2 ∷ [])) q)), λ i h. good_in jobs (omega arith) i), at 0 refl)
 
 -- ---- kieferntuch
 
 -- `kieferntuch_run`: a call that is refused for its table, here without bytes, leaves zeros in the trace
 wiped_on_refusal : (κs : _) (arrivals : List Arrival) → RuledOut kieferntuch_run_contract.ended run_asks run_says κs
     (lent 1 [], (lent 2 arrivals, (0, (1, (lent_mut 3 (blank 2 0xAA), tt))))) (refused 1 0 0 0, (_, (_, (_, (_, (blank 2 0, _))))))
-unfolding blank header_number reading_of trace_after
+unfolding blank header_number header_refusal refusal_number reading_of trace_after
 wiped_on_refusal κs arrivals = (tt, λ p. at 0 refl p.1)
 
 -- `kieferntuch_run`: refusal 11 of Q on two processors has the mark, 2, in the place of the value, which is 12

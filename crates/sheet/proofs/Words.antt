@@ -1,12 +1,14 @@
 -- The parts of a plan as words of at most 40 bits.
-use Prim.Native.Nat.{ℕ, ◌+◌, ◌*◌, ◌/◌, ◌%◌, ◌^◌, ◌≤◌, ◌<◌}
+use Prim.Native.Nat.{ℕ, ◌+◌, ◌-◌, ◌*◌, ◌/◌, ◌%◌, ◌^◌, ◌≤◌, ◌<◌}
 use mathlib.Core.Path.{◌≡◌, ◌∙◌, ap}
 use mathlib.Core.List.{List, [], ◌∷◌, ◌++◌}
 use native.Mathlib.Omega.{arith}
 use native.Mathlib.Numerals.{add-one}
 use native.Mathlib.Nat.{add_assoc}
-use lib.ListN.{length, get_or}
+use lib.ListN.{length, get_or, take, drop, length-drop}
+use lib.Seq.{length-take-le}
 use lib.Pow.{pow_mono}
+use Rattle.std.proofs.lemmas.List.{get_or-take, get_or-drop}
 use Rattle.lists.specs.Tab.{tab, joined}
 use Rattle.lists.proofs.Tab.{tab-append}
 use Rattle.lists.proofs.Joined.{length-joined}
@@ -27,6 +29,18 @@ module _ (serves : List ℕ) where
   pub processors_more : (ahead i : ℕ) → behind 0 (processor_fields serves ahead (i + 1)) ≡ behind 0 (processor_fields serves ahead i) * 32 + get_or serves (ahead + i + 1) 0
   unfolding processor_fields tab behind
   processors_more ahead i = rw (add-one i) (behind-append 0 (processor_fields serves ahead i) (field 5 (get_or serves (ahead + i + 1) 0) ∷ []))
+
+  -- the eight of them from place `ahead + 1` on
+  pub length_eight : (ahead : ℕ) → length serves ≡ 17 → ahead ≤ 8 → length (take (ahead + 9 - (ahead + 1)) (drop (ahead + 1) serves)) ≡ 8
+  length_eight ahead n h =
+      let d = length-drop (ahead + 1) serves in
+      let k : ahead + 9 - (ahead + 1) ≡ 8 = omega arith in
+      length-take-le (ahead + 9 - (ahead + 1)) (drop (ahead + 1) serves) (omega arith) ∙ k
+
+  pub one_of_eight : (ahead i : ℕ) → i < 8 → get_or (take (ahead + 9 - (ahead + 1)) (drop (ahead + 1) serves)) i 0 ≡ get_or serves (ahead + i + 1) 0
+  one_of_eight ahead i h =
+      let e : ahead + 1 + i ≡ ahead + i + 1 = omega arith in
+      get_or-take (ahead + 9 - (ahead + 1)) (drop (ahead + 1) serves) i 0 (omega arith) ∙ get_or-drop (ahead + 1) serves i 0 ∙ ap (λ (k : ℕ). get_or serves k 0) e
 
   -- 5 bits for each
   width_processors : (ahead count : ℕ) → width (processor_fields serves ahead count) ≡ 5 * count

@@ -7,15 +7,15 @@ ghost use Rattle.lists.specs.Tab.{joined};
 ghost use Rattle.sheet.specs.Fields.{behind, bytes_of};
 ghost use Rattle.sheet.specs.Sheet.{header_bytes, processor_fields, resource_bytes, task_bytes, task_of, plan_bytes, ServesFit, TasksFit};
 
+use plan::Plan;
+
 // Writes a number in so many bytes from place at on, the most significant first.
 fn put_word(part: &mut [u8], at: usize, count: usize, x: u64)
     requires { at + count ≤ length part.old }
     ensures { part.new ≡ sets part.old at (bytes_of count x) }
 {
-    let mut left = count;
     let mut rest = x;
-    while left > 0 {
-        left -= 1;
+    for left in (0..count).rev() {
         part[at + left] = (rest % 256) as u8;
         rest /= 256;
     }
@@ -35,10 +35,8 @@ fn eight(serves: &[u32; 17], ahead: usize) -> u64
     ensures { result ≡ behind 0 (processor_fields serves.now ahead 8) }
 {
     let mut word: u64 = 0;
-    let mut i = 0;
-    while i < 8 {
-        word = word * 32 + serves[ahead + i + 1] as u64;
-        i += 1;
+    for processor in &serves[ahead + 1..ahead + 9] {
+        word = word * 32 + *processor as u64;
     }
     word
 }
@@ -64,40 +62,22 @@ fn put_task(part: &mut [u8], at: usize, processor: u32, d1: u32, section: u32, d
 }
 
 // Writes the bytes of n tasks, behind the header and the resources.
-fn put_tasks(
-    part: &mut [u8],
-    n: usize,
-    processor: &[u32; 64],
-    d1: &[u32; 64],
-    section: &[u32; 64],
-    d2: &[u32; 64],
-)
-    requires { (n ≤ 64) × (12 + 9 * n ≤ length part.old) × TasksFit n processor.now d1.now section.now d2.now }
-    ensures { part.new ≡ sets part.old 12 (joined n (task_of processor.now d1.now section.now d2.now)) }
+fn put_tasks(part: &mut [u8], n: usize, p: &Plan)
+    requires { (n ≤ 64) × (12 + 9 * n ≤ length part.old) × TasksFit n p.now.processor p.now.d1 p.now.section p.now.d2 }
+    ensures { part.new ≡ sets part.old 12 (joined n (task_of p.now.processor p.now.d1 p.now.section p.now.d2)) }
 {
-    let mut k = 0;
-    while k < n {
-        put_task(part, 12 + 9 * k, processor[k], d1[k], section[k], d2[k]);
-        k += 1;
+    for k in 0..n {
+        let (d1, section, d2) = (p.d1[k], p.section[k], p.d2[k]);
+        put_task(part, 12 + 9 * k, p.processor[k], d1, section, d2);
     }
 }
 
-// Writes a plan at the start of the part of a sheet that is lent.
-pub fn write_plan(
-    part: &mut [u8],
-    n: usize,
-    m: usize,
-    s: usize,
-    serves: &[u32; 17],
-    processor: &[u32; 64],
-    d1: &[u32; 64],
-    section: &[u32; 64],
-    d2: &[u32; 64],
-)
-    requires { (n ≤ 64) × (m ≤ 16) × (s < 16) × (12 + 9 * n ≤ length part.old) × ServesFit serves.now × TasksFit n processor.now d1.now section.now d2.now }
-    ensures { part.new ≡ sets part.old 0 (plan_bytes n m s serves.now processor.now d1.now section.now d2.now) }
+// Writes a plan for n rows and m processors at the start of the part of a sheet that is lent.
+pub fn write_plan(part: &mut [u8], n: usize, m: usize, p: &Plan)
+    requires { (n ≤ 64) × (m ≤ 16) × (p.now.s < 16) × (12 + 9 * n ≤ length part.old) × ServesFit p.now.serves × TasksFit n p.now.processor p.now.d1 p.now.section p.now.d2 }
+    ensures { part.new ≡ sets part.old 0 (plan_bytes n m p.now.s p.now.serves p.now.processor p.now.d1 p.now.section p.now.d2) }
 {
-    put_header(part, n, m, s);
-    put_resources(part, serves);
-    put_tasks(part, n, processor, d1, section, d2);
+    put_header(part, n, m, p.s);
+    put_resources(part, &p.serves);
+    put_tasks(part, n, p);
 }

@@ -1,26 +1,32 @@
 -- Laws of weights: what they are at most, and who makes them.
-use Prim.Native.Nat.{ℕ, zero, suc, ◌+◌, ◌-◌, ◌*◌, ◌/◌, ◌<◌, ◌≤◌, zero-le}
-use mathlib.Core.Path.{◌≡◌, refl}
+use Prim.Native.Nat.{ℕ, zero, suc, ◌+◌, ◌-◌, ◌*◌, ◌/◌, ◌%◌, min, ◌<◌, ◌≤◌, zero-le}
+use mathlib.Core.Path.{◌≡◌, refl, ◌∙◌, ap}
 use mathlib.Core.List.{List}
 use mathlib.Core.Bool.{Bool, true, false, cond}
 use mathlib.Core.Logic.{◌↔◌, dite}
 use native.Mathlib.Omega.{arith}
 use native.Mathlib.Decide.{dec_lt}
-use native.Mathlib.Nat.{div-lt_iff_lt-mul}
+use native.Mathlib.Nat.{div-lt_iff_lt-mul, le-div_iff_mul-le, suc-mul, add_comm}
 use native.Mathlib.Numerals.{add-one}
-use mir.Syntax.{w32}
-use mir.Val.{Fits}
-use lib.ListN.{get_or}
+use lib.ListN.{length, get_or, take, drop, length-drop}
 use lib.Dec.{ltb}
+use Rattle.std.specs.List.{count_by}
+use Rattle.std.proofs.lemmas.Grind.{div_ceil_times, get_or_after_one}
 use Rattle.lists.proofs.Tab.{get_or-tab}
-use Rattle.lists.proofs.Count.{count-le, count_all}
+use Rattle.lists.proofs.Count.{counted, count_ext, count-le, count_all}
 use Rattle.rank.specs.Ceiling.{uses}
 use Rattle.bounds.specs.Demand.{ceil}
 use Rattle.spread.specs.Weight.{GoodRows, GoodWeights, weight_of, weights_of, used_of, Used}
 
--- the quotient of less than 2^32 periods fits 32 bits
-pub quotient_fits : (x period : ℕ) → x < 4294967296 * period → Fits w32 (x / period)
-quotient_fits x period h = omega (arith, (div-lt_iff_lt-mul {k = period} {x = x} {y = 4294967296} (omega arith)).1 h)
+-- rounded up
+pub rounded_up : (t period : ℕ) → 1 ≤ period → t / period + min 1 (t % period) ≡ ceil t period
+unfolding ceil
+rounded_up t period some =
+    let q : ℕ = t / period + min 1 (t % period) in
+    let (a, b) = div_ceil_times t period some in
+    let up : q ≤ (t + (period - 1)) / period = (le-div_iff_mul-le some).1 (omega arith) in
+    let down : (t + (period - 1)) / period < suc q = (div-lt_iff_lt-mul some).1 (omega (arith, suc-mul q period)) in
+    omega arith
 
 -- a user weighs at most a million, since its section is no longer than its period
 pub user_le : (section period : ℕ) → 1 ≤ period → section ≤ period → ceil (section * 1000000) period ≤ 1000000
@@ -60,6 +66,13 @@ module _ (periods sections resources : List ℕ) where
 pub used_le : (weights : List ℕ) → used_of weights ≤ 16
 unfolding used_of
 used_le weights = omega (arith, count-le 16 (λ r. ltb 0 (get_or weights (r + 1) 0)) (λ r. true) (λ r l e. refl), count_all 16)
+
+-- they are counted among the 16 weights behind the first
+pub used_is : (weights : List ℕ) → length weights ≡ 17 → count_by (ltb 0) (take 16 (drop 1 weights)) ≡ used_of weights
+unfolding used_of
+used_is weights n =
+    counted (ltb 0) (drop 1 weights) 16 (omega (arith, length-drop 1 weights))
+    ∙ count_ext 16 _ (λ r. ltb 0 (get_or weights (r + 1) 0)) (λ j l. ap (ltb 0) (get_or_after_one weights j 0 ∙ ap (λ (i : ℕ). get_or weights i 0) (add_comm 1 j)))
 
 -- a user with a section weighs something
 user_pos : (section period : ℕ) → 1 ≤ period → 1 ≤ section → 1 ≤ ceil (section * 1000000) period

@@ -8,17 +8,14 @@ use native.Mathlib.Omega.{arith}
 use native.Mathlib.Decide.{dec_lt}
 use borrow.Author.Tests.{lt-ltb, le-ltb}
 use lib.ListN.{get_or}
-use Rattle.lists.proofs.Tests.{clash}
+use Rattle.std.specs.Prelude.{Ok, Err}
 use Rattle.lists.proofs.First.{first_yes}
 use Rattle.lists.proofs.Smallest.{smallest_under, smallest_one}
 use Rattle.bounds.specs.Terms.{terms_on}
 use Rattle.bounds.proofs.Terms.{on_good, length-on}
-use Rattle.stages.specs.Fit.{broke_fit, smallest_broke, place_among}
+use Rattle.stages.specs.Fit.{Fit, Place, nowhere, broke_fit, smallest_broke, place_among}
 use Rattle.stages.specs.Good.{GoodStages}
 use Rattle.stages.specs.Stage.{is_nowhere, broke_place, fit_on, placed, place_of, first_nowhere, nowhere_value}
-use Rattle.stages.specs.declared.Fit.{Fit}
-use Rattle.stages.specs.declared.Place.{Place}
-use Rattle.stages.specs.declared.Place.TheVariants.{On, Nowhere}
 use Rattle.stages.proofs.Fitting.{fit_small, place_out}
 use Rattle.stages.proofs.Placing.{good_term}
 
@@ -27,7 +24,7 @@ abbrev IsSmallest : (ℕ → ℕ) → ℕ → ℕ → ℕ → Type 0
 IsSmallest value s m v = ((p : ℕ) → s < p → p ≤ m → v ≤ value p) × ((p : ℕ) × (s < p) × (p ≤ m) × (v ≡ value p))
 
 -- that is what a task without a place comes with
-pub smallest_broke_lem : (fit : ℕ → Fit) (s m v : ℕ) → s < m → place_among fit s m ≡ Nowhere v → IsSmallest (λ p. broke_fit (fit p)) s m v
+pub smallest_broke_lem : (fit : ℕ → Fit) (s m v : ℕ) → s < m → place_among fit s m ≡ nowhere v → IsSmallest (λ p. broke_fit (fit p)) s m v
 unfolding smallest_broke
 smallest_broke_lem fit s m v l h =
     let f : ℕ → ℕ = λ q. broke_fit (fit (s + 1 + q)) in
@@ -61,8 +58,8 @@ module _ (periods c1s c2s works sections : List ℕ) (s m n : ℕ) where
       fit = fit_on periods c1s c2s works sections s m (placed periods c1s c2s works sections s m stuck) stuck
 
       go : (x : Place) → place_among fit s m ≡ x → is_nowhere x ≡ true → SmallestStuck (broke_place x)
-      go (On p d1 d2) e q = clash cc
-      go (Nowhere v) e q = smallest_broke_lem fit s m v l e
+      go (Ok x) e q = cc
+      go (Err v) e q = smallest_broke_lem fit s m v.value l e
 
   -- it fits into 32 bits
   pub nowhere_small : GoodStages periods c1s c2s works sections n s m → nowhere_value periods c1s c2s works sections s m n ≤ 130000000

@@ -2,7 +2,7 @@
 use Prim.Native.Nat.{ℕ, zero, suc, ◌+◌, ◌*◌, ◌≤◌, ◌<◌}
 use mathlib.Core.Path.{◌≡◌, refl, sym, ◌∙◌, ap}
 use mathlib.Core.List.{List}
-use mathlib.Core.Bool.{true, false}
+use mathlib.Core.Bool.{Bool, true, false, cond}
 use mathlib.Core.Logic.{◌↔◌, dite}
 use native.Mathlib.Omega.{arith}
 use native.Mathlib.Numerals.{add-one}
@@ -10,23 +10,23 @@ use native.Mathlib.Decide.{ℕ_discrete}
 use borrow.Author.Count.{below_more}
 use borrow.Author.Tests.{lt-ltb, le-ltb}
 use lib.ListN.{length, get_or, set, length-set}
+use lib.Dec.{ltb}
 use lib.Seq.{get_or-set_same, get_or-set_other}
+use Rattle.std.specs.Prelude.{Ok, Err}
 use Rattle.lists.specs.Tab.{blank, filled}
-use Rattle.lists.proofs.Tests.{clash, not_both}
+use Rattle.lists.proofs.Tests.{not_both}
 use Rattle.lists.proofs.Tab.{filled_none, filled_next, get_or-filled, length-blank}
 use Rattle.lists.proofs.First.{first_no, first-le, first_is, first_none}
 use Rattle.bounds.specs.Demand.{GoodTerm}
 use Rattle.bounds.specs.Terms.{term_at, terms_on, lane}
 use Rattle.bounds.specs.Bound.{LeastBound}
 use Rattle.bounds.proofs.Terms.{on_same}
-use Rattle.bounds.proofs.Lanes.{Lanes, lanes_same, lanes_more}
-use Rattle.stages.specs.Fit.{fit_among, is_fit, place_among}
+use Rattle.bounds.specs.declared.Lanes.{Lanes}
+use Rattle.bounds.proofs.Filling.{Filled, lanes_same, lanes_more}
+use Rattle.stages.specs.Fit.{Fit, Place, fits, on, nowhere, fit_among, is_fit, place_among}
 use Rattle.stages.specs.Good.{GoodStages}
-use Rattle.stages.specs.Stage.{processor_of, d1_of, d2_of, is_nowhere, fit_on, placed, place_of, first_nowhere, nowhere_value, stages_to, stages_of}
-use Rattle.stages.specs.declared.Fit.{Fit}
-use Rattle.stages.specs.declared.Fit.TheVariants.{Fits, Not}
-use Rattle.stages.specs.declared.Place.{Place}
-use Rattle.stages.specs.declared.Place.TheVariants.{On, Nowhere}
+use Rattle.stages.specs.Stage.{processor_of, d1_of, d2_of, is_nowhere, fit_on, placed, place_of, first_nowhere, nowhere_value, stages_to, stages_of, stages_in}
+use Rattle.stages.specs.declared.Stages.{Stages}
 use Rattle.stages.proofs.Fitting.{fits_exactly, place_at, place_none, place_ext, place_in, place_out}
 
 module _ (periods c1s c2s works sections : List ℕ) (s m : ℕ) where
@@ -63,7 +63,7 @@ module _ (periods c1s c2s works sections : List ℕ) (s m : ℕ) where
       }
 
   -- one task more
-  pub held_more : {xs ys zs : List ℕ} (k p d1 d2 : ℕ) → k < 64 → place_of periods c1s c2s works sections s m k ≡ On p d1 d2 → Held k xs ys zs → Held (k + 1) (set xs k p) (set ys k d1) (set zs k d2)
+  pub held_more : {xs ys zs : List ℕ} (k p d1 d2 : ℕ) → k < 64 → place_of periods c1s c2s works sections s m k ≡ on p d1 d2 → Held k xs ys zs → Held (k + 1) (set xs k p) (set ys k d1) (set zs k d2)
   unfolding placed place_of
   held_more {xs} {ys} {zs} k p d1 d2 l e h =
       record {
@@ -77,27 +77,27 @@ module _ (periods c1s c2s works sections : List ℕ) (s m : ℕ) where
       column part out v q w = rw (sym w) (filled_next 64 0 (λ j. part (place_of periods c1s c2s works sections s m j)) k out l q)
 
   -- what is found on the lanes is the place
-  pub place_found : {ps ls counts xs ys zs : List ℕ} (k : ℕ) → m ≤ 16 → Held k xs ys zs → Lanes periods works xs ps ls counts k →
-      place_among (λ p. fit_among (lane ps ls p (get_or counts p 0)) (get_or c1s k 0) (get_or c2s k 0) (get_or sections k 0) (get_or periods k 0)) s m ≡ place_of periods c1s c2s works sections s m k
+  pub place_found : {lanes : Lanes} {xs ys zs : List ℕ} (k : ℕ) → m ≤ 16 → Held k xs ys zs → Filled periods works xs lanes k →
+      place_among (λ p. fit_among (lane lanes.terms p (get_or lanes.count p 0)) (get_or c1s k 0) (get_or c2s k 0) (get_or sections k 0) (get_or periods k 0)) s m ≡ place_of periods c1s c2s works sections s m k
   unfolding place_of fit_on
   place_found k l h x = rw (sym h.processors) (place_ext _ _ s m (λ p a b. rw (x.holds p (omega arith))))
 
   -- a placed task's term goes to the lane of its processor
-  pub lanes_next : {ps ls counts xs : List ℕ} (k p c : ℕ) → k < 64 → p < 17 → length xs ≡ 64 → get_or counts p 0 ≡ c → Lanes periods works xs ps ls counts k →
-      Lanes periods works (set xs k p) (set ps (64 * p + c) (get_or periods k 0)) (set ls (64 * p + c) (get_or works k 0)) (set counts p (c + 1)) (k + 1)
-  lanes_next {xs = xs} k p c l b n e x =
-      lanes_more periods works k p c l b (get_or-set_same xs k p 0 (omega arith)) e
-      (lanes_same periods works (λ i a. sym (get_or-set_other xs k i p 0 (λ z. omega arith))) x)
+  pub lanes_next : {lanes more : Lanes} {xs : List ℕ} (k p : ℕ) → k < 64 → p < 17 → length xs ≡ 64 → Filled periods works xs lanes k →
+      more.terms ≡ set lanes.terms (64 * p + get_or lanes.count p 0) (term_at periods works k) → more.count ≡ set lanes.count p (get_or lanes.count p 0 + 1) → Filled periods works (set xs k p) more (k + 1)
+  lanes_next {xs = xs} k p l b n x put counted =
+      lanes_more periods works k p l b (get_or-set_same xs k p 0 (omega arith))
+      (lanes_same periods works (λ i a. sym (get_or-set_other xs k i p 0 (λ z. omega arith))) x) put counted
 
   -- the first that fits none ends it, with its value
-  pub stages_nowhere : {xs ys zs : List ℕ} (n k v : ℕ) → k < n → Held k xs ys zs → place_of periods c1s c2s works sections s m k ≡ Nowhere v → record { nowhere = k; value = v; processor = xs; d1 = ys; d2 = zs } ≡ stages_of periods c1s c2s works sections s m n
+  pub stages_nowhere : {xs ys zs : List ℕ} (n k v : ℕ) → k < n → Held k xs ys zs → place_of periods c1s c2s works sections s m k ≡ nowhere v → Err (record { task = k; value = v; placed = record { processor = xs; d1 = ys; d2 = zs } }) ≡ stages_of periods c1s c2s works sections s m n
   unfolding stages_of stages_to nowhere_value first_nowhere
   stages_nowhere n k v l h e =
       let x : first_nowhere periods c1s c2s works sections s m n ≡ k = first_is n (λ k. is_nowhere (place_of periods c1s c2s works sections s m k)) k l h.so_far (ap is_nowhere e) in
       rw (x, lt-ltb k n l, e, h.processors, h.d1s, h.d2s)
 
   -- and where each fits one, all are held
-  pub stages_all : {xs ys zs : List ℕ} (n : ℕ) → Held n xs ys zs → record { nowhere = n; value = 0; processor = xs; d1 = ys; d2 = zs } ≡ stages_of periods c1s c2s works sections s m n
+  pub stages_all : {xs ys zs : List ℕ} (n : ℕ) → Held n xs ys zs → Ok (record { processor = xs; d1 = ys; d2 = zs }) ≡ stages_of periods c1s c2s works sections s m n
   unfolding stages_of stages_to nowhere_value first_nowhere
   stages_all n h =
       let x : first_nowhere periods c1s c2s works sections s m n ≡ n = first_none n (λ k. is_nowhere (place_of periods c1s c2s works sections s m k)) h.so_far in
@@ -129,7 +129,7 @@ module _ (periods c1s c2s works sections : List ℕ) (s m : ℕ) where
       × (d1 + get_or sections k 0 + d2 ≤ get_or periods k 0)
 
   -- what a fit beside the tasks before it is
-  fit_placed : (k p d1 d2 : ℕ) → s < p → p ≤ m → (fit_on periods c1s c2s works sections s m (placed periods c1s c2s works sections s m k) k p ≡ Fits d1 d2) ↔ Placed (placed periods c1s c2s works sections s m k) k p d1 d2
+  fit_placed : (k p d1 d2 : ℕ) → s < p → p ≤ m → (fit_on periods c1s c2s works sections s m (placed periods c1s c2s works sections s m k) k p ≡ fits d1 d2) ↔ Placed (placed periods c1s c2s works sections s m k) k p d1 d2
   unfolding fit_on
   fit_placed k p d1 d2 a b =
       let x = fits_exactly (terms_on periods works (placed periods c1s c2s works sections s m k) p k) (get_or c1s k 0) (get_or c2s k 0) (get_or sections k 0) (get_or periods k 0) d1 d2 in (
@@ -144,8 +144,8 @@ module _ (periods c1s c2s works sections : List ℕ) (s m : ℕ) where
   not_placed k p a b out = go (fit_on periods c1s c2s works sections s m (placed periods c1s c2s works sections s m k) k p) refl
     where
       go : (f : Fit) → fit_on periods c1s c2s works sections s m (placed periods c1s c2s works sections s m k) k p ≡ f → is_fit f ≡ false
-      go (Fits d1 d2) e = absurd (out d1 d2 ((fit_placed k p d1 d2 a b).0 e))
-      go (Not v) e = refl
+      go (Ok x) e = absurd (out x.d1 x.d2 ((fit_placed k p x.d1 x.d2 a b).0 e))
+      go (Err v) e = refl
 
   -- and on one that has no fit it cannot be
   never_placed : (k p d1 d2 : ℕ) → is_fit (fit_on periods c1s c2s works sections s m (placed periods c1s c2s works sections s m k) k p) ≡ false → Placed (placed periods c1s c2s works sections s m k) k p d1 d2 → ⊥
@@ -153,7 +153,7 @@ module _ (periods c1s c2s works sections : List ℕ) (s m : ℕ) where
       not_both (ap is_fit ((fit_placed k p d1 d2 x.0 x.1).1 x)) e
 
   -- a task goes to "the lowest-numbered application processor that it fits"
-  pub place_exactly : (k p d1 d2 : ℕ) → (place_of periods c1s c2s works sections s m k ≡ On p d1 d2)
+  pub place_exactly : (k p d1 d2 : ℕ) → (place_of periods c1s c2s works sections s m k ≡ on p d1 d2)
       ↔ (Placed (placed periods c1s c2s works sections s m k) k p d1 d2 × ((q e1 e2 : ℕ) → q < p → Placed (placed periods c1s c2s works sections s m k) k q e1 e2 → ⊥))
   unfolding place_of
   place_exactly k p d1 d2 = (
@@ -178,18 +178,33 @@ module _ (periods c1s c2s works sections : List ℕ) (s m : ℕ) where
       fit = fit_on periods c1s c2s works sections s m (placed periods c1s c2s works sections s m k) k
 
       out : (x : Place) → place_among fit s m ≡ x → is_nowhere x ≡ true → (p d1 d2 : ℕ) → Placed (placed periods c1s c2s works sections s m k) k p d1 d2 → ⊥
-      out (On q u v) e h p d1 d2 x = clash cc
-      out (Nowhere v) e h p d1 d2 x = never_placed k p d1 d2 ((place_out fit s m v e).0 p x.0 (omega (arith, x.1))) x
+      out (Ok y) e h p d1 d2 x = cc
+      out (Err v) e h p d1 d2 x = never_placed k p d1 d2 ((place_out fit s m v.value e).0 p x.0 (omega (arith, x.1))) x
+
+  -- these places are answered
+  pub stages_answered : (n : ℕ) → stages_in (stages_of periods c1s c2s works sections s m n) ≡ stages_to periods c1s c2s works sections s m (first_nowhere periods c1s c2s works sections s m n)
+  unfolding stages_of
+  stages_answered n = go (ltb k n)
+    where
+      k : ℕ
+      k = first_nowhere periods c1s c2s works sections s m n
+
+      x : Stages
+      x = stages_to periods c1s c2s works sections s m k
+
+      go : (b : Bool) → stages_in (cond b (Err (record { task = k; value = nowhere_value periods c1s c2s works sections s m n; placed = x })) (Ok x)) ≡ x
+      go true = refl
+      go false = refl
 
   -- each task that has a place is placed so
   pub stages_placed : (n k : ℕ) → n ≤ 64 → k < first_nowhere periods c1s c2s works sections s m n →
-      Placed (stages_of periods c1s c2s works sections s m n).processor k
-      (get_or (stages_of periods c1s c2s works sections s m n).processor k 0)
-      (get_or (stages_of periods c1s c2s works sections s m n).d1 k 0)
-      (get_or (stages_of periods c1s c2s works sections s m n).d2 k 0)
-  unfolding stages_of stages_to first_nowhere
+      Placed (stages_in (stages_of periods c1s c2s works sections s m n)).processor k
+      (get_or (stages_in (stages_of periods c1s c2s works sections s m n)).processor k 0)
+      (get_or (stages_in (stages_of periods c1s c2s works sections s m n)).d1 k 0)
+      (get_or (stages_in (stages_of periods c1s c2s works sections s m n)).d2 k 0)
+  unfolding stages_to first_nowhere
   stages_placed n k few l =
-      rw (placed_at e k l small, get_or-filled 64 0 (λ j. d1_of (place_of periods c1s c2s works sections s m j)) e k 0 l, get_or-filled 64 0 (λ j. d2_of (place_of periods c1s c2s works sections s m j)) e k 0 l)
+      rw (stages_answered n, placed_at e k l small, get_or-filled 64 0 (λ j. d1_of (place_of periods c1s c2s works sections s m j)) e k 0 l, get_or-filled 64 0 (λ j. d2_of (place_of periods c1s c2s works sections s m j)) e k 0 l)
       (go (place_of periods c1s c2s works sections s m k) refl (first_no n (λ j. is_nowhere (place_of periods c1s c2s works sections s m j)) k l))
     where
       e : ℕ
@@ -199,8 +214,8 @@ module _ (periods c1s c2s works sections : List ℕ) (s m : ℕ) where
       small = omega (arith, first-le n (λ j. is_nowhere (place_of periods c1s c2s works sections s m j)))
 
       go : (x : Place) → place_of periods c1s c2s works sections s m k ≡ x → is_nowhere x ≡ false → Placed (placed periods c1s c2s works sections s m e) k (processor_of x) (d1_of x) (d2_of x)
-      go (On p d1 d2) q h =
-          let (a, b, x, y, z) = ((place_exactly k p d1 d2).0 q).0 in
-          let o : terms_on periods works (placed periods c1s c2s works sections s m e) p k ≡ terms_on periods works (placed periods c1s c2s works sections s m k) p k = on_same periods works _ _ p k (λ i j. placed_keeps e k i j (omega arith)) in
+      go (Ok r) q h =
+          let (a, b, x, y, z) = ((place_exactly k r.processor r.d1 r.d2).0 q).0 in
+          let o : terms_on periods works (placed periods c1s c2s works sections s m e) r.processor k ≡ terms_on periods works (placed periods c1s c2s works sections s m k) r.processor k = on_same periods works _ _ r.processor k (λ i j. placed_keeps e k i j (omega arith)) in
           (a, b, rw o x, rw o y, z)
-      go (Nowhere v) q h = clash cc
+      go (Err v) q h = cc

@@ -3,7 +3,7 @@ use Prim.Native.Nat.{ℕ, ◌+◌, ◌*◌, ◌≤◌, ◌<◌}
 use mathlib.Core.Path.{◌≡◌, refl}
 use mathlib.Core.List.{List}
 use mathlib.Core.Logic.{dite}
-use mathlib.Core.Option.{Option, none, some}
+use Rattle.std.specs.Prelude.{Option, Some, None}
 use native.Mathlib.Omega.{arith}
 use native.Mathlib.Decide.{dec_lt}
 use lib.ListN.{length}
@@ -40,12 +40,12 @@ module _ (n : ℕ) (xs : List Arrival) (next t u : ℕ) (c : Coming n xs next t)
           rw e (first (omega arith)))
 
   -- and no arrival comes before
-  pub none_between : n ≤ 64 → Coming n xs next u → (i v : ℕ) → i < n → t ≤ v → v < u → brings xs i v ≡ none
+  pub none_between : n ≤ 64 → Coming n xs next u → (i v : ℕ) → i < n → t ≤ v → v < u → brings xs i v ≡ None
   none_between few d i v l a b = go (brings xs i v) refl
     where
-      go : (o : Option (List ℕ)) → brings xs i v ≡ o → o ≡ none
-      go none e = refl
-      go (some ls) e =
+      go : (o : Option (List ℕ)) → brings xs i v ≡ o → o ≡ None
+      go None e = refl
+      go (Some ls) e =
           let p = brings_at xs i v ls e in
           dite (dec_lt p.place next)
           (λ s. absurd (omega (arith, c.seek.past p.place s)))

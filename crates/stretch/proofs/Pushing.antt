@@ -3,7 +3,7 @@ use Prim.Native.Nat.{ℕ, zero, suc, ◌+◌, ◌-◌, ◌≤◌, ◌<◌}
 use mathlib.Core.Path.{◌≡◌, refl, sym, ◌∙◌, ap}
 use mathlib.Core.Bool.{Bool, true, false}
 use mathlib.Core.List.{List}
-use mathlib.Core.Option.{none}
+use Rattle.std.specs.Prelude.{None}
 use native.Mathlib.Omega.{arith}
 use native.Mathlib.Nat.{add-zero}
 use borrow.Author.Tests.{eqb-true}
@@ -33,7 +33,7 @@ use Rattle.stretch.proofs.Rows.{push_cases, push_runs, due_push, kind_push, serv
 -- in k ticks behind tick t no arrival comes, no release falls due, and what the processors run goes on; `there` are the jobs once
 -- the releases of tick t are in, begun in ticks before, and `rows` what the processors pick then
 pub record Calm (c : Chart) (ar : Arrivals) (t k : ℕ) (there : List Job) (rows : List ℕ) : Type 0 where
-  pub none_comes : (i u : ℕ) → i < c.n → t < u → u ≤ t + k → ar i u ≡ none
+  pub none_comes : (i u : ℕ) → i < c.n → t < u → u ≤ t + k → ar i u ≡ None
   pub still : 0 < k → (i : ℕ) → i < c.n → t + k < due_of c.bounds i (job_at there i)
   pub go_on : 0 < k → (q i : ℕ) → q < 17 → get_or rows q 0 ≡ suc i → Goes (get_or c.rank i 0) (get_or c.top i 0) (suc k) (job_at there i) (job_at there i).place
   pub marked : (i : ℕ) → i < c.n → (job_at there i).begun ≤ t

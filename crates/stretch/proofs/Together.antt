@@ -64,6 +64,13 @@ pub record Rests (c : Chart) (xs : List Arrival) (t e : ℕ) (flat dues rows : L
   pub still : 0 < k → (i : ℕ) → i < c.n → t + k < get_or dues i 0
   pub go_on : 0 < k → (q i : ℕ) → q < 17 → get_or rows q 0 ≡ suc i → Goes (get_or c.rank i 0) (get_or c.top i 0) (suc k) (job_in flat i) (job_in flat i).place
 
+-- both, as the functions say them
+pub were_released : {c : Chart} {xs : List Arrival} {t late next : ℕ} {js : List Job} {flat dues rows : List ℕ} → GoodChart c → GoodJobs c.n t js
+    → (late ≡ c.n) × (jobs_in flat ≡ releases c.n c.bounds (brings xs) t js) × Dues c.n c.bounds (jobs_in flat) dues × Coming c.n xs next (suc t)
+    → rows ≡ tab 17 (pick c.homes c.rank c.top c.n (jobs_in flat)) → Released c xs t js flat dues rows next
+were_released good jobs_good given rows_are =
+    record { good = good; jobs_good = jobs_good; jobs_are = given.1; dues_are = given.2; coming = given.3; rows_are = rows_are }
+
 module _ (c : Chart) (xs : List Arrival) (t e : ℕ) (js : List Job) (flat dues rows : List ℕ) (next : ℕ) (le : e ≤ 1000000) (r : Released c xs t js flat dues rows next) where
   -- the jobs once the releases are in
   abbrev there : List Job

@@ -2,6 +2,7 @@
 use Prim.Native.Nat.{ℕ, ◌+◌, ◌-◌, ◌*◌, ◌/◌, ◌%◌, ◌^◌}
 use Prim.Native.Char.{code}
 use Prim.Native.String.{String, len, char_at}
+use Rattle.std.specs.Prelude.{Result}
 use mathlib.Core.Path.{◌≡◌}
 use mathlib.Core.Bool.{Bool, true, false, cond, xor}
 use mathlib.Core.List.{List, [], ◌∷◌, ◌++◌}
@@ -14,9 +15,9 @@ use Rattle.lists.specs.Count.{count}
 use Rattle.rank.specs.Rank.{rank_of, ranks_of}
 use Rattle.rank.specs.Ceiling.{ceiling_of, ceilings_of}
 use Rattle.table.specs.declared.Table.{Table}
-use Rattle.table.specs.declared.Reading.{Reading}
-use Rattle.table.specs.Row.{outside, judged, row_of, number_of}
-use Rattle.table.specs.Table.{header_number, row_number, first_bad, column, ranked, table_of, rows_reading, reading_of}
+use Rattle.table.specs.declared.Refusal.{Refusal}
+use Rattle.table.specs.Row.{outside, judged, row_of, fault_number, number_of as row_number_of}
+use Rattle.table.specs.Table.{header_number, header_refusal, row_number, first_bad, column, ranked, table_of, table_in, fault_with, rows_reading, reading_of}
 
 abbrev pub PCP : Bool
 PCP = false
@@ -51,8 +52,8 @@ abbrev pub written : Given → List ℕ
 written (m, npp, rows) = bytes 2 (((length rows * 2 ^ 5 + m) * 2 + cond npp 1 0) * 2 ^ 3) ++ rows_written rows
 
 -- what these bytes are read as; whoever unfolds this unfolds all that reading computes by
-unfoldable pub reading : Given → Reading
-unfolding bits_value tab filled first count rank_of ranks_of ceiling_of ceilings_of xor outside judged row_of number_of header_number row_number first_bad column ranked table_of rows_reading reading_of
+unfoldable pub reading : Given → Result Table Refusal
+unfolding bits_value tab filled first count rank_of ranks_of ceiling_of ceilings_of xor outside judged row_of fault_number row_number_of header_number header_refusal row_number first_bad column ranked table_of fault_with rows_reading reading_of
 reading given = reading_of (written given)
 
 -- the numbers of a table
@@ -62,7 +63,7 @@ numbers_of t =
 
 -- the bytes are read as the numbers that they were written from
 abbrev pub ReadBack : Given → Type 0
-ReadBack given = numbers_of (reading given).table ≡ given
+ReadBack given = numbers_of (table_in (reading given)) ≡ given
 
 -- bytes in hex, as the paper writes them: two digits each, and one character between two bytes
 abbrev digit : ℕ → ℕ

@@ -1,15 +1,18 @@
 -- What the bytes of a table say: the table, or the one refusal 1 to 9 and the row that it names.
-use Rattle.std.specs.Prelude.{ℕ, ◌+◌, ◌*◌, List, Bool, false, cond, not, length, take, drop, ltb, eqb}
+use Rattle.std.specs.Prelude.{ℕ, ◌+◌, ◌*◌, List, Bool, false, cond, not, length, take, drop, ltb, eqb, Result, Ok, Err, Option, Some, None}
 use Rattle.bits.specs.Bits.{bits_value}
 use Rattle.lists.specs.Tab.{blank, filled}
 use Rattle.lists.specs.First.{first}
 use Rattle.rank.specs.Rank.{ranks_of}
 use Rattle.rank.specs.Ceiling.{ceilings_of}
-use Rattle.table.specs.Row.{outside, task_of, row_of, number_of}
+use Rattle.table.specs.Row.{outside, task_of, row_of, fault_number, number_of as row_number_of}
 use Rattle.table.specs.declared.Task.{Task}
 use Rattle.table.specs.declared.Table.{Table}
-use Rattle.table.specs.declared.Reading.{Reading}
+use Rattle.table.specs.declared.Header.{Header}
+use Rattle.table.specs.declared.RowFault.{RowFault}
+use Rattle.table.specs.declared.RowFault.TheVariants.{BadPeriod, BadResource, Disagree, BadSum}
 use Rattle.table.specs.declared.Refusal.{Refusal}
+use Rattle.table.specs.declared.Refusal.TheVariants.{TooShort, BadRows, BadProcessors, SpareBits, BadLength, BadRow}
 
 -- "Header, 16 bits: task count n (7), processor count m (5), protocol (1: 0 is PCP, 1 is NPP), three zero bits."
 abbrev pub task_count : List ℕ → ℕ
@@ -33,13 +36,33 @@ header_number bs =
     (cond (ltb 0 (spare_bits bs)) 4
     (cond (not (eqb (length bs) (2 + 11 * task_count bs))) 5 0))))
 
+-- the refusal with such a number
+unfoldable pub header_refusal : ℕ → Refusal
+header_refusal number =
+    cond (eqb number 1) TooShort
+    (cond (eqb number 2) BadRows
+    (cond (eqb number 3) BadProcessors
+    (cond (eqb number 4) SpareBits
+    BadLength)))
+
+-- the counts and the protocol in the header
+abbrev pub header_in : List ℕ → Header
+header_in bs = record { n = task_count bs; m = processor_count bs; npp = eqb (protocol_bit bs) 1 }
+
+-- the header, or its refusal
+abbrev pub header_of : List ℕ → Result Header Refusal
+header_of bs =
+    cond (ltb 0 (header_number bs))
+    (Err (header_refusal (header_number bs)))
+    (Ok (header_in bs))
+
 -- "each row is read from its own eleven bytes"; k counts from 0
 abbrev pub row_bytes : List ℕ → ℕ → List ℕ
 row_bytes bs k = take 11 (drop (2 + 11 * k) bs)
 
 -- the refusal 6 to 9 of row k, or 0
 unfoldable pub row_number : List ℕ → ℕ → ℕ
-row_number bs k = number_of (row_of (row_bytes bs k))
+row_number bs k = row_number_of (row_of (row_bytes bs k))
 
 -- the first bad row of n, or n
 unfoldable pub first_bad : List ℕ → ℕ → ℕ
@@ -91,28 +114,74 @@ no_table =
       ceiling = blank 17 0;
     }
 
--- "All else that a refused call returns is 0"
-abbrev pub refusal : ℕ → ℕ → Reading
-refusal number names = record { number = number; names = names; table = no_table }
+-- a table of a header without rows
+abbrev pub blank_of : Header → Table
+blank_of h = record no_table { n = h.n; m = h.m; npp = h.npp }
 
--- the refusal of a reading by itself: its number, 0 if there is none, and what it names
-abbrev pub refusal_of : Reading → Refusal
-refusal_of r = record { number = r.number; names = r.names }
+-- "Numbers for no", 1 to 9
+unfoldable pub number_of : Refusal → ℕ
+number_of TooShort = 1
+number_of BadRows = 2
+number_of BadProcessors = 3
+number_of SpareBits = 4
+number_of BadLength = 5
+number_of (BadRow f row) = fault_number f
+
+-- the row that a refusal names, counted from 1; the header's name none
+unfoldable pub names_of : Refusal → ℕ
+names_of TooShort = 0
+names_of BadRows = 0
+names_of BadProcessors = 0
+names_of SpareBits = 0
+names_of BadLength = 0
+names_of (BadRow f row) = row
+
+-- a refusal in place of the table
+abbrev pub refusal : Refusal → Result Table Refusal
+refusal e = Err e
 
 -- a table that is not refused
-abbrev pub accepted : Table → Reading
-accepted t = record { number = 0; names = 0; table = t }
+abbrev pub accepted : Table → Result Table Refusal
+accepted t = Ok t
+
+-- the number of a reading; 0 is no refusal
+abbrev pub number_in : Result Table Refusal → ℕ
+number_in (Ok t) = 0
+number_in (Err e) = number_of e
+
+-- the row that it names, or 0
+abbrev pub names_in : Result Table Refusal → ℕ
+names_in (Ok t) = 0
+names_in (Err e) = names_of e
+
+-- its table: "All else that a refused call returns is 0"
+abbrev pub table_in : Result Table Refusal → Table
+table_in (Ok t) = t
+table_in (Err e) = no_table
+
+-- the refusal of a reading by itself
+abbrev pub refusal_of : Result Table Refusal → Option Refusal
+refusal_of (Ok t) = None
+refusal_of (Err e) = Some e
+
+-- the fault with a number of 6 to 9
+unfoldable pub fault_with : ℕ → RowFault
+fault_with number =
+    cond (eqb number 6) BadPeriod
+    (cond (eqb number 7) BadResource
+    (cond (eqb number 8) Disagree
+    BadSum))
 
 -- the rows behind a good header: "for rows .. the first bad one, and in it the lowest"; rows count from 1
-unfoldable pub rows_reading : List ℕ → ℕ → ℕ → Bool → Reading
+unfoldable pub rows_reading : List ℕ → ℕ → ℕ → Bool → Result Table Refusal
 rows_reading bs n m npp =
     cond (ltb (first_bad bs n) n)
-    (refusal (row_number bs (first_bad bs n)) (first_bad bs n + 1))
+    (refusal (BadRow (fault_with (row_number bs (first_bad bs n))) (first_bad bs n + 1)))
     (accepted (table_of bs n m npp))
 
 -- what any list of bytes says: "The lowest number wins"
-unfoldable pub reading_of : List ℕ → Reading
+unfoldable pub reading_of : List ℕ → Result Table Refusal
 reading_of bs =
     cond (ltb 0 (header_number bs))
-    (refusal (header_number bs) 0)
+    (refusal (header_refusal (header_number bs)))
     (rows_reading bs (task_count bs) (processor_count bs) (eqb (protocol_bit bs) 1))

@@ -2,8 +2,8 @@
 #![tactic(auto)]
 
 ghost use Rattle.std.specs.Prelude.{◌≡◌, Bool, ℕ, ◌+◌, ◌*◌, ◌<◌, ◌≤◌, length};
-ghost use Rattle.table.specs.Row.{outside as outside_lem, judged, row_of, number_of as number_of_lem};
-ghost use Rattle.table.specs.Table.{header_number as header_number_lem, row_bytes, ranked, rows_reading, refusal, refusal_of as refusal_of_lem, accepted, reading_of};
+ghost use Rattle.table.specs.Row.{outside as outside_lem, judged, row_of};
+ghost use Rattle.table.specs.Table.{number_of, names_of, header_of, row_bytes, blank_of, rows_reading, refusal_of as refusal_of_lem, reading_of};
 
 // A row's fields: period, length of stage one, of the section and of stage two, and the resource (0 is none).
 #[derive(Clone, Copy)]
@@ -15,14 +15,63 @@ struct Task {
     resource: u32,
 }
 
-// A row, or why it is refused.
-#[derive(Clone, Copy)]
-enum RowRead {
-    Good(Task),
+// Why a row is refused: the paper's 6 to 9.
+#[derive(Clone, Copy, Debug, PartialEq, Eq)]
+pub enum RowFault {
     BadPeriod,
     BadResource,
     Disagree,
     BadSum,
+}
+
+// Why a table is refused: the paper's 1 to 5 for its header, and for its first bad row, counted from 1, the row's fault.
+#[derive(Clone, Copy, Debug, PartialEq, Eq)]
+pub enum Refusal {
+    TooShort,
+    BadRows,
+    BadProcessors,
+    SpareBits,
+    BadLength,
+    BadRow(RowFault, u32),
+}
+
+impl Refusal {
+    // The paper's number.
+    #[tactic(auto, unfolding(crate::specs::Table::number_of, crate::specs::Row::fault_number))]
+    pub fn number(self) -> u32
+        ensures { result ≡ number_of self }
+    {
+        match self {
+            Refusal::TooShort => 1,
+            Refusal::BadRows => 2,
+            Refusal::BadProcessors => 3,
+            Refusal::SpareBits => 4,
+            Refusal::BadLength => 5,
+            Refusal::BadRow(RowFault::BadPeriod, _) => 6,
+            Refusal::BadRow(RowFault::BadResource, _) => 7,
+            Refusal::BadRow(RowFault::Disagree, _) => 8,
+            Refusal::BadRow(RowFault::BadSum, _) => 9,
+        }
+    }
+
+    // The row that it names, or 0.
+    #[tactic(auto, unfolding(crate::specs::Table::names_of))]
+    pub fn names(self) -> u32
+        ensures { result ≡ names_of self }
+    {
+        match self {
+            Refusal::BadRow(_, row) => row,
+            _ => 0,
+        }
+    }
+}
+
+// What a good header says.
+#[derive(Clone, Copy)]
+struct Header {
+    n: usize,
+    m: usize,
+    npp: bool,
 }
 
 // The columns of a table, a place for each row; the rank of each row, from 0; the ceiling of each resource, at its number.
@@ -40,66 +89,36 @@ pub struct Table {
     pub ceiling: [u32; 17],
 }
 
-// Number 0 and the table, or the refusal and the row that it names, with a table of zeros.
-#[derive(Drop)]
-pub struct Reading {
-    pub number: u32,
-    pub names: u32,
-    pub table: Table,
-}
-
-// A refusal by itself: its number, 0 if there is none, and the row that it names.
-#[derive(Clone, Copy)]
-pub struct Refusal {
-    pub number: u32,
-    pub names: u32,
-}
-
 // Whether x is not one of lo to hi.
+#[tactic(auto, unfolding(crate::specs::Row::outside))]
 fn outside(x: u32, lo: u32, hi: u32) -> bool
     ensures { result ≡ outside_lem x lo hi }
 {
-    if x < lo {
-        return true;
-    }
-    x > hi
-}
-
-// The refusal of an answer; 0 is none.
-fn number_of(row: RowRead) -> u32
-    ensures { result ≡ number_of_lem row }
-{
-    match row {
-        RowRead::Good(_) => 0,
-        RowRead::BadPeriod => 6,
-        RowRead::BadResource => 7,
-        RowRead::Disagree => 8,
-        RowRead::BadSum => 9,
-    }
+    !(lo..=hi).contains(&x)
 }
 
 // The first of 6 to 9 that the fields of a row break, or the row.
-fn judge(t: Task, spare: u32) -> RowRead
+fn judge(t: Task, spare: u32) -> Result<Task, RowFault>
     requires { (t.c1 < 1048576) × (t.a < 1048576) × (t.c2 < 1048576) }
     ensures { result ≡ judged t spare }
 {
     if outside(t.period, 1, 1000000) {
-        return RowRead::BadPeriod;
+        return Err(RowFault::BadPeriod);
     }
     if t.resource > 16 || spare > 0 {
-        return RowRead::BadResource;
+        return Err(RowFault::BadResource);
     }
     if (t.a > 0) != (t.resource > 0) {
-        return RowRead::Disagree;
+        return Err(RowFault::Disagree);
     }
     if outside(t.c1 + t.a + t.c2, 1, t.period) {
-        return RowRead::BadSum;
+        return Err(RowFault::BadSum);
     }
-    RowRead::Good(t)
+    Ok(t)
 }
 
 // The row in its eleven bytes, each loaded once: two words of two fields of 20 bits, and the last byte.
-fn read_row(part: &[u8]) -> RowRead
+fn read_row(part: &[u8]) -> Result<Task, RowFault>
     requires { length part.now ≡ 11 }
     ensures { result ≡ row_of part.now }
 {
@@ -117,7 +136,7 @@ fn read_row(part: &[u8]) -> RowRead
 }
 
 // Row k of a table, counted from 0: the row's part of the table goes to the row reader.
-fn row_at(bytes: &[u8], k: usize) -> RowRead
+fn row_at(bytes: &[u8], k: usize) -> Result<Task, RowFault>
     requires { 2 + 11 * (k + 1) ≤ length bytes.now }
     ensures { result ≡ row_of (row_bytes bytes.now k) }
 {
@@ -126,158 +145,101 @@ fn row_at(bytes: &[u8], k: usize) -> RowRead
     read_row(&bytes[at..end])
 }
 
-// A refusal: all else is 0.
-fn refuse(number: u32, names: u32) -> Reading
-    ensures { result ≡ refusal number names }
+// What the header says, or the first of 1 to 5 that it breaks.
+#[tactic(auto, unfolding(crate::specs::Table::header_number, crate::specs::Table::header_refusal))]
+fn read_header(bytes: &[u8]) -> Result<Header, Refusal>
+    ensures { result ≡ header_of bytes.now }
 {
-    let zeros = lists::no_column();
-    let table = Table {
-        n: 0,
-        m: 0,
-        npp: false,
+    if bytes.len() < 2 {
+        return Err(Refusal::TooShort);
+    }
+    let n = bits::field(bytes, 0, 7);
+    if outside(n, 1, 64) {
+        return Err(Refusal::BadRows);
+    }
+    let m = bits::field(bytes, 7, 5);
+    if outside(m, 2, 16) {
+        return Err(Refusal::BadProcessors);
+    }
+    if bits::field(bytes, 13, 3) > 0 {
+        return Err(Refusal::SpareBits);
+    }
+    if bytes.len() != 2 + 11 * n as usize {
+        return Err(Refusal::BadLength);
+    }
+    let npp = bits::field(bytes, 12, 1) == 1;
+    Ok(Header {
+        n: n as usize,
+        m: m as usize,
+        npp,
+    })
+}
+
+// A table of a header without rows: zeros.
+fn blank(h: Header) -> Table
+    ensures { result ≡ blank_of h }
+{
+    let zeros = lists::blank::<64>(0);
+    Table {
+        n: h.n,
+        m: h.m,
+        npp: h.npp,
         period: zeros,
         c1: zeros,
         a: zeros,
         c2: zeros,
         resource: zeros,
         rank: zeros,
-        ceiling: lists::no_numbered(),
-    };
-    Reading {
-        number,
-        names,
-        table,
+        ceiling: lists::blank::<17>(0),
     }
 }
 
-// The table of these columns, with the ranks of its rows and the ceilings of its resources.
-fn finish(
-    n: usize,
-    m: usize,
-    npp: bool,
-    period: [u32; 64],
-    c1: [u32; 64],
-    a: [u32; 64],
-    c2: [u32; 64],
-    resource: [u32; 64],
-) -> Reading
-    requires { n ≤ 64 }
-    ensures { result ≡ accepted (ranked n m npp period c1 a c2 resource) }
+// The rows behind a good header, column by column, with their ranks and the ceilings of their resources, or the first bad one's refusal.
+fn read_rows(bytes: &[u8], h: Header) -> Result<Table, Refusal>
+    requires { (h.n ≤ 64) × (length bytes.now ≡ 2 + 11 * h.n) }
+    ensures { result ≡ rows_reading bytes.now h.n h.m h.npp }
 {
-    let rank = rank::ranks(&period, n);
-    let ceiling = rank::ceilings(&resource, &rank, n);
-    let table = Table {
-        n,
-        m,
-        npp,
-        period,
-        c1,
-        a,
-        c2,
-        resource,
-        rank,
-        ceiling,
-    };
-    Reading {
-        number: 0,
-        names: 0,
-        table,
+    let mut t = blank(h);
+    for i in 0..h.n {
+        let row = row_at(bytes, i).map_err(|fault| Refusal::BadRow(fault, i as u32 + 1))?;
+        t.period[i] = row.period;
+        t.c1[i] = row.c1;
+        t.a[i] = row.a;
+        t.c2[i] = row.c2;
+        t.resource[i] = row.resource;
     }
+    let rank = rank::ranks(&t.period, h.n);
+    let ceiling = rank::ceilings(&t.resource, &rank, h.n);
+    Ok(Table { rank, ceiling, ..t })
 }
 
-// The rows behind a good header, column by column, or the first bad one's refusal.
-fn read_rows(bytes: &[u8], n: usize, m: usize, npp: bool) -> Reading
-    requires { (n ≤ 64) × (length bytes.now ≡ 2 + 11 * n) }
-    ensures { result ≡ rows_reading bytes.now n m npp }
-{
-    let mut period = lists::no_column();
-    let mut c1 = lists::no_column();
-    let mut a = lists::no_column();
-    let mut c2 = lists::no_column();
-    let mut resource = lists::no_column();
-    let mut i = 0;
-    while i < n {
-        let row = row_at(bytes, i);
-        let RowRead::Good(t) = row else {
-            return refuse(number_of(row), i as u32 + 1);
-        };
-        period[i] = t.period;
-        c1[i] = t.c1;
-        a[i] = t.a;
-        c2[i] = t.c2;
-        resource[i] = t.resource;
-        i += 1;
-    }
-    finish(n, m, npp, period, c1, a, c2, resource)
-}
-
-// The first of 1 to 5 that a header breaks, or 0.
-fn header_number(bytes: &[u8]) -> u32
-    ensures { result ≡ header_number_lem bytes.now }
-{
-    if bytes.len() < 2 {
-        return 1;
-    }
-    let n = bits::field(bytes, 0, 7);
-    if outside(n, 1, 64) {
-        return 2;
-    }
-    if outside(bits::field(bytes, 7, 5), 2, 16) {
-        return 3;
-    }
-    if bits::field(bytes, 13, 3) > 0 {
-        return 4;
-    }
-    if bytes.len() != 2 + 11 * n as usize {
-        return 5;
-    }
-    0
-}
-
-// What any bytes say: the table, or the one refusal and the row that it names.
-pub fn read_table(bytes: &[u8]) -> Reading
+// What any bytes say: the table, or the one refusal.
+pub fn read_table(bytes: &[u8]) -> Result<Table, Refusal>
     ensures { result ≡ reading_of bytes.now }
 {
-    let number = header_number(bytes);
-    if number > 0 {
-        return refuse(number, 0);
-    }
-    let n = bits::field(bytes, 0, 7) as usize;
-    let m = bits::field(bytes, 7, 5) as usize;
-    let npp = bits::field(bytes, 12, 1) == 1;
-    read_rows(bytes, n, m, npp)
+    let h = read_header(bytes)?;
+    read_rows(bytes, h)
 }
 
 // The refusal of the first bad row behind a good header.
-fn rows_refusal(bytes: &[u8], n: usize) -> Refusal
+fn rows_refusal(bytes: &[u8], n: usize) -> Option<Refusal>
     requires { (n ≤ 64) × (length bytes.now ≡ 2 + 11 * n) }
     ensures { (m : ℕ) → (npp : Bool) → result ≡ refusal_of_lem (rows_reading bytes.now n m npp) }
 {
-    let mut i = 0;
-    while i < n {
-        let number = number_of(row_at(bytes, i));
-        if number > 0 {
-            return Refusal {
-                number,
-                names: i as u32 + 1,
-            };
+    for i in 0..n {
+        if let Err(fault) = row_at(bytes, i) {
+            return Some(Refusal::BadRow(fault, i as u32 + 1));
         }
-        i += 1;
     }
-    Refusal {
-        number: 0,
-        names: 0,
-    }
+    None
 }
 
 // The refusal of any bytes, for a caller who does not want the table.
-pub fn refusal_of(bytes: &[u8]) -> Refusal
+pub fn refusal_of(bytes: &[u8]) -> Option<Refusal>
     ensures { result ≡ refusal_of_lem (reading_of bytes.now) }
 {
-    let number = header_number(bytes);
-    if number > 0 {
-        return Refusal { number, names: 0 };
+    match read_header(bytes) {
+        Ok(h) => rows_refusal(bytes, h.n),
+        Err(no) => Some(no),
     }
-    let n = bits::field(bytes, 0, 7) as usize;
-    rows_refusal(bytes, n)
 }

@@ -1,8 +1,12 @@
 -- `arrivals::check_arrivals` meets its contract. The loop's invariant: the first k arrivals have no refusal, and each row's mark is kept.
-use Prim.Native.Nat.{ℕ, suc, ◌+◌, ◌-◌, ◌*◌, ◌≤◌, ◌<◌}
+use Prim.Native.Nat.{ℕ, suc, ◌+◌, ◌-◌, ◌≤◌, ◌<◌}
 use mathlib.Core.List.{List}
 use mathlib.Core.Logic.{dite}
-use mathlib.Core.Path.{◌≡◌, sym}
+use mathlib.Core.Path.{◌≡◌, refl, sym, ◌∙◌, ap}
+use borrow.Author.Rules.{rules}
+use Rattle.std.specs.Prelude.{Result, Ok, Err, ⊤, MatchResult, true, is_ok}
+use Rattle.std.proofs.lemmas.Result.{err_from_is_err_and}
+use Rattle.lists.proofs.Tests.{clash}
 use native.Mathlib.Decide.{ℕ_discrete}
 use native.Mathlib.Numerals.{add-one}
 use native.Mathlib.Omega.{arith}
@@ -11,10 +15,10 @@ use borrow.Author.Tests.{eq-eqb, ne_eqb}
 use lib.ListN.{length, get_or, set, length-set}
 use lib.Seq.{get_or-set_same, get_or-set_other}
 use Rattle.lists.proofs.Tab.{length-blank, get_or-blank}
-use Rattle.arrivals.specs.Arrival.{Arrival, arrival_at, arrival_in, arrivals_of}
-use Rattle.arrivals.specs.Check.{last_of, number_at}
-use Rattle.arrivals.proofs.Flat.{length_arrivals, arrival_at_lem}
-use Rattle.arrivals.proofs.Fine.{Fine, fine, heard_bad, heard_none}
+use Rattle.arrivals.specs.Arrival.{Arrival, arrival_at, listed}
+use Rattle.arrivals.specs.Check.{Fault, Unheard, last_of, fault_number, number_by, number_at}
+use Rattle.arrivals.proofs.Numbers.{length_arrivals}
+use Rattle.arrivals.proofs.Fine.{fine, heard_bad, heard_none}
 use Rattle.arrivals.proofs.check_arrivals.Invariants.{Kept}
 use Rattle.arrivals.proofs.check_arrivals.Goals as goal
 
@@ -32,78 +36,72 @@ kept_more xs n k last x e r l t kept i h =
     let g : get_or (set last (x.row - 1) (x.tick + 1)) i 0 ≡ get_or last i 0 = get_or-set_other last (x.row - 1) i (x.tick + 1) 0 (λ p. q (omega arith)) in
     rw (add-one k, e, ne_eqb _ _ q, g) (kept i h))
 
--- an arrival that has no refusal is fine
-passed : (n : ℕ) (periods c1s secs c2s flat : List ℕ) (count k : ℕ) → k < count → number_at n periods c1s secs c2s (arrivals_of flat count) k ≡ 0 → Fine n periods c1s secs c2s (arrivals_of flat count) k (arrival_in flat k)
-passed n periods c1s secs c2s flat count k l e = fine n periods c1s secs c2s (arrivals_of flat count) k (arrival_in flat k) (arrival_at_lem flat count k l) e
+-- what a fault by its position says of the arrival
+at_ok : (r : Result ⊤ Fault) → true ≡ is_ok r → number_by r ≡ 0
+at_ok (Ok x) h = refl
+at_ok (Err f) h = clash cc
+
+at_err : (r : Result ⊤ Fault) (e : Unheard) (Q : Fault → Type 0) → MatchResult r (λ x. ◌≡◌ {A = Result ⊤ Unheard} (Err e) (Ok x)) Q → (f : Fault) × (number_by r ≡ fault_number f) × Q f
+at_err (Ok x) e Q h = clash cc
+at_err (Err f) e Q h = (f, refl, h)
 
 pub loop-k-init : goal.loop-k-init
 unfolding last_of
 loop-k-init c =
-    let e = c.no_column-last.ensures in
-    let z : (i : ℕ) → get_or c.no_column-last.result i 0 ≡ 0 = λ i. rw e (get_or-blank 64 0 i) in
-    (omega arith, rw e (length-blank 64 0), λ j l. absurd (omega arith), λ i l. (omega (arith, z i), z i))
+    let e = c.blank-last.ensures in
+    let z : (i : ℕ) → get_or c.blank-last.result i 0 ≡ 0 = λ i. rw e (get_or-blank 64 0 i) in
+    record { long = rw e (length-blank 64 0); good = λ j l. absurd (omega arith); kept = λ i l. (omega (arith, z i), z i) }
 
-pub number_at-number-requires : goal.number_at-number-requires
-number_at-number-requires c =
-    let p = c.requires in
-    let l = c.loop-k.invariant.3 in
-    (omega arith, p.0, p.1, p.2, λ i h. (p.3 i h, (l i h).0, (l i h).1))
-
-pub returns-then-number-gt0 : goal.returns-then-number-gt0
-returns-then-number-gt0 c =
-    let a = c.args in
+pub returns-in_err-map_err : goal.returns-in_err-map_err
+returns-in_err-map_err c =
+    let p = err_from_is_err_and c.from_residual.result c.from_residual.ensures.1 in
+    let e = c.in_err-map_err.field-0.0 in
+    let (f, q, m) = at_err c.check_at.result e _ c.in_err-map_err.ensures.cases in
+    let xs = c.args.xs.now in
+    let t = c.args.t.now in
     let l = c.loop-k in
-    let e = c.number_at-number.ensures in
-    let b = heard_bad a.n a.period.now a.c1.now a.a.now a.c2.now (arrivals_of a.flat.now a.count) l.k (omega (arith, length_arrivals a.flat.now a.count)) l.invariant.2 (omega (arith, e)) in
-    rw (e, add-one) (sym b)
+    let b : number_at t.n t.period t.c1 t.a t.c2 (listed xs) l.k-counter ≡ fault_number f = sym c.check_at.ensures ∙ q in
+    let r = heard_bad t.n t.period t.c1 t.a t.c2 (listed xs) l.k-counter f (omega (arith, length_arrivals xs.numbers xs.count)) l.invariant.good b in
+    let k : e ≡ record { fault = f; position = l.k-counter + 1 } = search rules in
+    p.1 ∙ ap (λ (x : Unheard). Err x) (p.2 ∙ k) ∙ sym r
 
-pub overflow_cast-i : goal.overflow_cast-i
-overflow_cast-i c = omega (arith, c.type_inv.flat (5 * c.loop-k.k + 1))
-
-pub overflow_sub-i : goal.overflow_sub-i
-unfolding arrival_in
-overflow_sub-i c =
-    let a = c.args in
-    let fine_here = passed a.n a.period.now a.c1.now a.a.now a.c2.now a.flat.now a.count c.loop-k.k c.loop-k-test.true (omega (arith, c.number_at-number.ensures, c.if-number-gt0.false)) in
-    omega (arith, fine_here.row)
+pub overflow_sub-last : goal.overflow_sub-last
+overflow_sub-last c =
+    let t = c.args.t.now in
+    let f = fine t.n t.period t.c1 t.a t.c2 (listed c.args.xs.now) c.loop-k.k-counter c.arrival-x.result (sym c.arrival-x.ensures) (sym c.check_at.ensures ∙ at_ok c.check_at.result c.in_ok-map_err.ensures.variant) in
+    f.row.0
 
 pub overflow_add-last : goal.overflow_add-last
-unfolding arrival_in
 overflow_add-last c =
-    let a = c.args in
-    let fine_here = passed a.n a.period.now a.c1.now a.a.now a.c2.now a.flat.now a.count c.loop-k.k c.loop-k-test.true (omega (arith, c.number_at-number.ensures, c.if-number-gt0.false)) in
-    omega (arith, fine_here.tick.0)
+    let t = c.args.t.now in
+    let f = fine t.n t.period t.c1 t.a t.c2 (listed c.args.xs.now) c.loop-k.k-counter c.arrival-x.result (sym c.arrival-x.ensures) (sym c.check_at.ensures ∙ at_ok c.check_at.result c.in_ok-map_err.ensures.variant) in
+    omega (arith, f.tick.0)
 
-pub offset_bounds-last-i : goal.offset_bounds-last-i
-unfolding arrival_in
-offset_bounds-last-i c =
-    let a = c.args in
-    let fine_here = passed a.n a.period.now a.c1.now a.a.now a.c2.now a.flat.now a.count c.loop-k.k c.loop-k-test.true (omega (arith, c.number_at-number.ensures, c.if-number-gt0.false)) in
-    omega (arith, fine_here.row)
-
-pub bounds-last-i : goal.bounds-last-i
-unfolding arrival_in
-bounds-last-i c =
-    let a = c.args in
-    let fine_here = passed a.n a.period.now a.c1.now a.a.now a.c2.now a.flat.now a.count c.loop-k.k c.loop-k-test.true (omega (arith, c.number_at-number.ensures, c.if-number-gt0.false)) in
-    omega (arith, fine_here.row)
+pub bounds-last-x : goal.bounds-last-x
+bounds-last-x c =
+    let t = c.args.t.now in
+    let f = fine t.n t.period t.c1 t.a t.c2 (listed c.args.xs.now) c.loop-k.k-counter c.arrival-x.result (sym c.arrival-x.ensures) (sym c.check_at.ensures ∙ at_ok c.check_at.result c.in_ok-map_err.ensures.variant) in
+    omega (arith, f.row)
 
 pub loop-k-preserved : goal.loop-k-preserved
-unfolding arrival_in
 loop-k-preserved c =
-    let a = c.args in
+    let t = c.args.t.now in
+    let xs = listed c.args.xs.now in
     let l = c.loop-k in
-    let none : number_at a.n a.period.now a.c1.now a.a.now a.c2.now (arrivals_of a.flat.now a.count) l.k ≡ 0 = omega (arith, c.number_at-number.ensures, c.if-number-gt0.false) in
-    let fine_here = passed a.n a.period.now a.c1.now a.a.now a.c2.now a.flat.now a.count l.k c.loop-k-test.true none in
-    let h = arrival_at_lem a.flat.now a.count l.k (omega arith) in (
-      omega arith,
-      simp length-set l.invariant.1,
-      below_more _ _ l.invariant.2 none,
-      kept_more (arrivals_of a.flat.now a.count) a.n l.k l.last (arrival_in a.flat.now l.k) h fine_here.row (omega arith) fine_here.tick.0 l.invariant.3,
-    )
+    let x = c.arrival-x.result in
+    let e = sym c.arrival-x.ensures in
+    let none = sym c.check_at.ensures ∙ at_ok c.check_at.result c.in_ok-map_err.ensures.variant in
+    let f = fine t.n t.period t.c1 t.a t.c2 xs l.k-counter x e none in
+    record {
+      long = simp length-set l.invariant.long;
+      good = below_more _ _ l.invariant.good none;
+      kept = kept_more xs t.n l.k-counter l.last x e f.row (omega arith) f.tick.0 l.invariant.kept;
+    }
 
 pub returns : goal.returns
 returns c =
     let a = c.args in
+    let t = c.args.t.now in
+    let xs = c.args.xs.now in
     let l = c.loop-k in
-    sym (heard_none a.n a.period.now a.c1.now a.a.now a.c2.now (arrivals_of a.flat.now a.count) (λ j h. l.invariant.2 j (omega (arith, length_arrivals a.flat.now a.count))))
+    sym (heard_none t.n t.period t.c1 t.a t.c2 (listed xs) (λ j h. l.invariant.good j (omega (arith, length_arrivals xs.numbers xs.count))))

@@ -1,9 +1,9 @@
 -- `arrivals::check_arrivals` meets its contract. The loop's invariant: the first k arrivals have no refusal, and each row's mark is kept.
-use Prim.Native.Nat.{ℕ, suc, ◌-◌, ◌≤◌, ◌<◌}
+use Prim.Native.Nat.{ℕ, suc, ◌≤◌, ◌<◌}
 use mathlib.Core.List.{List}
 use mathlib.Core.Path.{◌≡◌}
 use lib.ListN.{length, get_or}
-use Rattle.arrivals.specs.Arrival.{Arrival, arrivals_of}
+use Rattle.arrivals.specs.Arrival.{Arrival, listed}
 use Rattle.arrivals.specs.Check.{last_of, number_at}
 use Rattle.arrivals.proofs.check_arrivals.Given as goal
 
@@ -13,7 +13,8 @@ Kept xs n k last = (i : ℕ) → i < n → (get_or last i 0 ≤ 1000000) × (get
 
 abbrev pub invariant-loop-k : goal.invariant-loop-k
 invariant-loop-k l =
-    (l.k ≤ l.count) × (length l.last ≡ 64) × ((j : ℕ) → j < l.k → number_at l.n l.period l.c1 l.a l.c2 (arrivals_of l.flat l.count) j ≡ 0) × Kept (arrivals_of l.flat l.count) l.n l.k l.last
-
-abbrev pub decreases-loop-k : goal.decreases-loop-k
-decreases-loop-k l = l.count - l.k
+    record {
+      long : length l.last ≡ 64;
+      good : (j : ℕ) → j < l.k-counter → number_at l.t.n l.t.period l.t.c1 l.t.a l.t.c2 (listed l.xs) j ≡ 0;
+      kept : Kept (listed l.xs) l.t.n l.k-counter l.last;
+    }

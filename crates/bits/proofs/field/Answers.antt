@@ -1,10 +1,9 @@
 -- `bits::field` meets its contract: of the bits of the bytes that it lies in, a field is those between the bits ahead and behind.
-use Prim.Native.Nat.{ℕ, ◌+◌, ◌-◌, ◌*◌, ◌/◌, ◌%◌, ◌^◌, ◌≤◌, ◌<◌}
-use mathlib.Core.Path.{◌≡◌, sym, ◌∙◌, ap, subst}
+use Prim.Native.Nat.{ℕ, ◌+◌, ◌-◌, ◌*◌, ◌/◌, ◌%◌, ◌^◌, ◌≤◌}
+use mathlib.Core.Path.{◌≡◌, ◌∙◌, ap}
 use mathlib.Core.List.{List}
 use native.Mathlib.Omega.{arith}
-use native.Mathlib.Nat.{one-mul, mod-lt, lt_of_lt_of_le}
-use borrow.Author.Rules.{Fits-under}
+use native.Mathlib.Nat.{one-mul}
 use lib.Pow as Pow
 use Rattle.bits.specs.Bits.{bits_value}
 use Rattle.bits.proofs.Laws.{bits_lt, bits_within}
@@ -14,10 +13,6 @@ use Rattle.bits.proofs.field.Goals as goal
 size : (w : ℕ) → w ≤ 20 → 1 * 2 ^ w % 2 ^ 64 ≡ 2 ^ w
 size w h = Pow.shl_exact 1 w 64 (omega arith) (omega arith) ∙ one-mul (2 ^ w)
 
--- at most 20 bits say a number below 2 ^ 20
-below : (x w : ℕ) → w ≤ 20 → x % (1 * 2 ^ w % 2 ^ 64) < 1048576
-below x w h = rw (size w h) (lt_of_lt_of_le (mod-lt x (Pow.pow_pos w)) (Pow.pow_mono h))
-
 -- the field of w bits at place `at`, out of the value x of the bytes that it lies in
 cut : (bs : List ℕ) (at w x : ℕ) → w ≤ 20 → x ≡ bits_value bs (8 * (at / 8)) (8 * ((at + w + 7) / 8 - at / 8)) → x / 2 ^ (8 * ((at + w + 7) / 8) - (at + w)) % (1 * 2 ^ w % 2 ^ 64) ≡ bits_value bs at w
 cut bs at w x h e =
@@ -25,12 +20,6 @@ cut bs at w x h e =
     let n : 8 * ((at + w + 7) / 8 - at / 8) ≡ at % 8 + w + behind = omega arith in
     let p : 8 * (at / 8) + at % 8 ≡ at = omega arith in
     rw (size w h, e, n) (bits_within bs (8 * (at / 8)) (at % 8) w behind ∙ ap (λ (k : ℕ). bits_value bs k w) p)
-
-pub nonzero_rem-result : goal.nonzero_rem-result
-nonzero_rem-result c = subst (λ (n : ℕ). 0 < n) (sym (size _ (omega arith))) (Pow.pow_pos _)
-
-pub overflow_cast-result : goal.overflow_cast-result
-overflow_cast-result c = Fits-under _ _ _ (below _ _ (omega arith)) tt
 
 pub returns : goal.returns
 returns c =

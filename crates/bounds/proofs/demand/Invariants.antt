@@ -1,13 +1,11 @@
--- `bounds::demand` meets its contract. The loop's invariant: the sum so far is `own` and what the first i terms ask for, and stays far below 2^32.
-use Prim.Native.Nat.{◌+◌, ◌*◌, ◌-◌, ◌≤◌}
+-- `bounds::demand` meets its contract. The loop's invariant: the sum so far is `own` and what the terms before this one ask for, and stays
+-- far below 2^32.
+use Prim.Native.Nat.{◌+◌, ◌*◌, ◌≤◌}
 use mathlib.Core.Path.{◌≡◌}
+use lib.ListN.{take}
 use Rattle.bounds.specs.Demand.{demand}
-use Rattle.bounds.specs.Terms.{terms_in}
 use Rattle.bounds.proofs.demand.Given as goal
 
-abbrev pub invariant-loop-i : goal.invariant-loop-i
-invariant-loop-i l =
-    (l.i ≤ l.n) × (l.sum ≡ l.own + demand (terms_in l.period l.len l.i) l.t) × (l.sum ≤ l.own + l.i * 2000000)
-
-abbrev pub decreases-loop-i : goal.decreases-loop-i
-decreases-loop-i l = l.n - l.i
+abbrev pub invariant-loop-x : goal.invariant-loop-x
+invariant-loop-x l =
+    (l.sum ≡ l.own + demand (take l.x-index l.terms) l.t) × (l.sum ≤ l.own + l.x-index * 2000000)

@@ -1,21 +1,18 @@
 -- `bounds::least` meets its contract. The loop's invariant: t is a member of the sequence, and none before it is above the limit.
 use mathlib.Core.Path.{sym, ◌∙◌}
 use native.Mathlib.Omega.{arith}
-use borrow.Author.Rules.{rules}
-use Rattle.bounds.specs.Terms.{terms_in}
 use Rattle.bounds.proofs.Sequence.{reached_own, reached_next, reached_up, reached_under}
 use Rattle.bounds.proofs.Search.{least_at, least_none}
 use Rattle.bounds.proofs.least.Goals as goal
 
 pub loop-t-init : goal.loop-t-init
-loop-t-init c = (search rules, reached_own _ _ _)
+loop-t-init c = (omega arith, reached_own _ _ _)
 
 pub returns-then-asked-t : goal.returns-then-asked-t
 returns-then-asked-t c =
     let b = c.args in
     let l = c.loop-t in
-    let terms = terms_in b.period.now b.len.now b.n in
-    sym (least_at terms b.own b.limit l.t l.invariant.0 (omega arith) (reached_under terms b.own b.limit l.t l.invariant.1) (sym c.demand-asked.ensures ∙ c.if-asked-t.true))
+    sym (least_at b.terms.now b.own b.limit l.t l.invariant.0 (omega arith) (reached_under b.terms.now b.own b.limit l.t l.invariant.1) (sym c.demand-asked.ensures ∙ c.if-asked-t.true))
 
 pub loop-t-smaller : goal.loop-t-smaller
 loop-t-smaller c =
@@ -31,4 +28,4 @@ pub returns : goal.returns
 returns c =
     let b = c.args in
     let l = c.loop-t in
-    sym (least_none (terms_in b.period.now b.len.now b.n) b.own b.limit l.t (search rules) (l.invariant.1, omega arith))
+    sym (least_none b.terms.now b.own b.limit l.t (omega arith) (l.invariant.1, omega arith))

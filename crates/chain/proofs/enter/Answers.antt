@@ -9,20 +9,20 @@ pub returns-then-t-due : goal.returns-then-t-due
 returns-then-t-due c =
     let l = c.loop-part in
     let e = c.release_of-due.ensures.0 in
-    rw e (sym (from_waits c.args.bounds.now c.args.i c.args.arrived c.args.lens c.args.t l.part (omega arith) (omega arith)) ∙ l.invariant.1)
+    rw e (sym (from_waits c.args.row.bounds.now c.args.row.i c.args.arrived c.args.lens c.args.t l.part (omega arith) (omega arith)) ∙ l.invariant)
 
 pub returns-then-len-gt0 : goal.returns-then-len-gt0
 returns-then-len-gt0 c =
     let l = c.loop-part in
     let e = c.release_of-due.ensures.0 in
-    sym (from_runs c.args.bounds.now c.args.i c.args.arrived c.args.lens c.args.t l.part (omega arith) (omega arith) c.if-len-gt0.true) ∙ l.invariant.1
+    sym (from_runs c.args.row.bounds.now c.args.row.i c.args.arrived c.args.lens c.args.t l.part (omega arith) (omega arith) c.if-len-gt0.true) ∙ l.invariant
 
 pub loop-part-preserved : goal.loop-part-preserved
 loop-part-preserved c =
     let l = c.loop-part in
     let e = c.release_of-due.ensures.0 in
-    (omega arith, sym (from_next c.args.bounds.now c.args.i c.args.arrived c.args.lens c.args.t l.part (omega arith) (omega arith) (omega arith)) ∙ l.invariant.1)
+    sym (from_next c.args.row.bounds.now c.args.row.i c.args.arrived c.args.lens c.args.t l.part (omega arith) (omega arith) (omega arith)) ∙ l.invariant
 
 pub returns : goal.returns
 unfolding enter
-returns c = let e : c.loop-part.part ≡ 3 = omega arith in rw e at c.loop-part.invariant.1
+returns c = let e : c.loop-part.part ≡ 3 = omega (arith, c.loop-part.auto.part-end) in rw e at c.loop-part.invariant

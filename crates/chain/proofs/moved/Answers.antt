@@ -1,12 +1,13 @@
 -- `chain::moved` meets its contract.
-use native.Mathlib.Nat.{add-zero}
-use Rattle.chain.specs.Job.{moved}
+use Rattle.chain.specs.Job.{is_idle, moved}
+use Rattle.chain.proofs.Places.{idle_no}
 use Rattle.chain.proofs.moved.Goals as goal
+use Rattle.chain.proofs.moved.Goals.{in-Idle, in_default}
 
-pub returns-then-is_idle : goal.returns-then-is_idle
-unfolding moved
-returns-then-is_idle c = rw (← c.is_idle.ensures, c.if-is_idle.true)
-
-pub returns-else-is_idle : goal.returns-else-is_idle
-unfolding moved
-returns-else-is_idle c = rw (← c.is_idle.ensures, c.if-is_idle.false, add-zero)
+pub returns : goal.returns
+unfolding moved is_idle
+returns c =
+    elim c.match-matches.branch [
+      | in-Idle w ↦ rw (c.from.ensures, w.matches-is, w.in-Idle.is)
+      | in_default w ↦ rw (c.from.ensures, w.matches-is, idle_no c.args.p w.in_default.not-Idle)
+    ]

@@ -3,15 +3,9 @@ use Prim.Native.Nat.{suc, ◌+◌}
 use mathlib.Core.Path.{◌≡◌, sym, ap}
 use native.Mathlib.Omega.{arith}
 use native.Mathlib.Numerals.{add-one}
+use Rattle.std.proofs.Common.{rules, Fits, w32}
 use Rattle.chain.specs.Owed.{lens_from, owes}
-use Rattle.chain.specs.Good.{part_of}
 use Rattle.chain.proofs.owed.Goals as goal
-
-pub lens_from-requires : goal.lens_from-requires
-lens_from-requires c = omega (arith, ap part_of c.in-Waiting.is)
-
-pub lens_from-requires-in-Running : goal.lens_from-requires-in-Running
-lens_from-requires-in-Running c = omega (arith, ap part_of c.in-Running.is)
 
 pub returns-in-Idle : goal.returns-in-Idle
 unfolding owes
@@ -26,4 +20,5 @@ unfolding owes
 returns-in-Running c =
     let ls = c.args.x.lens in
     let n : lens_from (c.in-Running.part + 1) ls ≡ lens_from (suc c.in-Running.part) ls = rw add-one in
-    omega (arith, ap (owes ls) c.in-Running.is)
+    let f : Fits w32 c.in-Running.left = search rules in
+    omega (arith, ap (owes ls) c.in-Running.is, c.from.ensures, f.fits)

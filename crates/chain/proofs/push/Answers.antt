@@ -29,9 +29,6 @@ returns-in_default c =
     let a = c.args in
     rests (λ p. a.x ≡ push_at a.t a.k a.x p) refl (λ u j. refl) a.x.place c.in_default.not-Running
 
-pub overflow_sub-place : goal.overflow_sub-place
-overflow_sub-place c = c.requires.2 _ _ c.in-Running.is
-
 pub returns : goal.returns
 returns c =
     let a = c.args in

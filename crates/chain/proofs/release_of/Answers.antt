@@ -1,25 +1,33 @@
--- `chain::release_of` meets its contract. The loop's invariant: the tick is the one that releases part j.
-use Prim.Native.Nat.{◌+◌, ◌*◌}
-use mathlib.Core.Path.{◌≡◌, sym}
+-- `chain::release_of` meets its contract.
+use Prim.Native.Nat.{◌*◌}
+use mathlib.Core.Path.{◌≡◌}
 use native.Mathlib.Omega.{arith}
-use borrow.Author.Rules.{rules}
-use Rattle.chain.specs.Release.{off}
-use Rattle.chain.proofs.Offsets.{off_more, off_small}
+use Rattle.std.proofs.Common.{rules}
+use Rattle.std.proofs.iter.runs.Sources.{sums}
+use Rattle.std.specs.List.{sum}
+use lib.ListN.{take, drop}
+use Rattle.chain.proofs.Offsets.{off_sum, off_small}
 use Rattle.chain.proofs.release_of.Goals as goal
 
-pub loop-j-init : goal.loop-j-init
-unfolding off
-loop-j-init c = search rules
+pub sum-requires-clause-fits : goal.sum-requires-clause-fits
+sum-requires-clause-fits c =
+    let a = c.args in
+    let b = off_small a.row.bounds.now a.row.i a.row.good a.part in
+    let s = off_sum a.row.bounds.now a.row.i a.part (omega (arith, a.row.good.whole)) in
+    search (rules, sums)
 
-pub overflow_add-tick-in-loop-j : goal.overflow_add-tick-in-loop-j
-overflow_add-tick-in-loop-j c =
-    let l = c.loop-j in
-    omega (arith, off_small c.args.bounds.now c.args.i c.requires.3 l.j, c.requires.3.small (3 * c.args.i + l.j))
-
-pub loop-j-preserved : goal.loop-j-preserved
-loop-j-preserved c = omega (arith, off_more c.args.bounds.now c.args.i c.loop-j.j)
+pub overflow_add-result : goal.overflow_add-result
+overflow_add-result c =
+    let a = c.args in
+    let b = off_small a.row.bounds.now a.row.i a.row.good a.part in
+    let s = off_sum a.row.bounds.now a.row.i a.part (omega (arith, a.row.good.whole)) in
+    let e : c.sum.result ≡ sum (take a.part (drop (3 * a.row.i) a.row.bounds.now)) = search (rules, sums) in
+    omega arith
 
 pub returns : goal.returns
 returns c =
-    let e : c.loop-j.j ≡ c.args.part = omega arith in
-    (rw (sym e) c.loop-j.invariant.1, omega (arith, off_small c.args.bounds.now c.args.i c.requires.3 c.loop-j.j))
+    let a = c.args in
+    let b = off_small a.row.bounds.now a.row.i a.row.good a.part in
+    let s = off_sum a.row.bounds.now a.row.i a.part (omega (arith, a.row.good.whole)) in
+    let e : c.sum.result ≡ sum (take a.part (drop (3 * a.row.i) a.row.bounds.now)) = search (rules, sums) in
+    omega arith

@@ -4,4 +4,4 @@ use Rattle.jobs.proofs.job_at.Goals as goal
 
 pub returns : goal.returns
 unfolding job_in
-returns c = rw c.place_in-place.ensures
+returns c = rw c.place_in.ensures

@@ -13,7 +13,8 @@ returns c =
     let y = c.put_resources-tasks.ensures in
     let z = c.put_tasks.ensures in
     let a = c.args in
-    let p = plan_line a.n a.m a.s in
-    let rs = resource_lines a.serves.now 16 in
-    let ts = joined a.n (task_line a.processor.now a.d1.now a.section.now a.d2.now) in
-    (then (p ++ rs) ts (then p rs x.0 y.0) z.0, omega (arith, x.1, y.1, z.1))
+    let p = a.p.now in
+    let head = plan_line a.n a.m p.s in
+    let rs = resource_lines p.serves 16 in
+    let ts = joined a.n (task_line p.processor p.d1 p.section p.d2) in
+    (then (head ++ rs) ts (then head rs x.0 y.0) z.0, omega (arith, x.1, y.1, z.1))

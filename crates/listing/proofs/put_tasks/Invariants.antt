@@ -1,5 +1,5 @@
 -- `listing::put_tasks` meets its contract. The loop's invariant: the lines of the first k rows are written, in at most 60 bytes each.
-use Prim.Native.Nat.{◌+◌, ◌-◌, ◌*◌, ◌≤◌}
+use Prim.Native.Nat.{◌+◌, ◌*◌, ◌≤◌}
 use Rattle.lists.specs.Tab.{joined}
 use Rattle.listing.specs.Text.{Wrote}
 use Rattle.listing.specs.Listing.{task_line}
@@ -7,7 +7,4 @@ use Rattle.listing.proofs.put_tasks.Given as goal
 
 abbrev pub invariant-loop-k : goal.invariant-loop-k
 invariant-loop-k l =
-    (l.k ≤ l.n) × Wrote l.initial.out l.at l.out l.end (joined l.k (task_line l.processor l.d1 l.section l.d2)) × (l.end ≤ l.at + 60 * l.k)
-
-abbrev pub decreases-loop-k : goal.decreases-loop-k
-decreases-loop-k l = l.n - l.k
+    Wrote l.initial.out l.at l.out l.end (joined l.k (task_line l.p.processor l.p.d1 l.p.section l.p.d2)) × (l.end ≤ l.at + 60 * l.k)

@@ -8,7 +8,6 @@ use Rattle.table.specs.declared.Table.{Table}
 use Rattle.plan.specs.declared.Plan.{Plan}
 use Rattle.plan.specs.Tasks.{of_resource}
 use Rattle.machine.specs.Chart.{chart, threes, locks_of, tops_of, chart_of}
-use Rattle.machine.proofs.chart_of.Goals.{then-t, else-t}
 use Rattle.machine.proofs.chart_of.Goals as goal
 
 -- the columns together
@@ -25,22 +24,12 @@ ceilings : (t : Table) (top : List ℕ) → top ≡ of_resource t.ceiling t.reso
 unfolding tops_of
 ceilings t top e h = e ∙ rw h
 
-pub of_resource-locks-requires : goal.of_resource-locks-requires
-of_resource-locks-requires c =
-    (c.requires.rows.1, λ k h. (c.requires.tasks k h).resource)
-
-pub of_resource-tops-requires : goal.of_resource-tops-requires
-of_resource-tops-requires c =
-    (c.requires.rows.1, λ k h. (c.requires.tasks k h).resource)
-
-pub returns : goal.returns
-returns c =
+pub returns-then-t : goal.returns-then-t
+returns-then-t c =
     let a = c.args in
-    let joined = c.if-t in
-    let top : joined.top ≡ tops_of a.t =
-    elim joined.branch [
-      | then-t w ↦ none a.t joined.top (w.top-is ∙ w.no_column-top.ensures) w.if-t.true
-      | else-t w ↦ ceilings a.t joined.top (w.top-is ∙ c.of_resource-tops.ensures) w.if-t.false
-    ]
-    in
-    made a.t a.p c.of_resource-locks.result joined.top c.interleaved.result c.interleaved-2.result c.of_resource-locks.ensures top c.interleaved.ensures c.interleaved-2.ensures
+    made a.t.now a.p.now c.of_resource-locks.result _ c.interleaved.result c.interleaved-2.result c.of_resource-locks.ensures (none a.t.now _ c.blank.ensures c.if-t.true) c.interleaved.ensures c.interleaved-2.ensures
+
+pub returns-else-t : goal.returns-else-t
+returns-else-t c =
+    let a = c.args in
+    made a.t.now a.p.now c.of_resource-locks.result _ c.interleaved.result c.interleaved-2.result c.of_resource-locks.ensures (ceilings a.t.now _ c.of_resource-tops.ensures c.if-t.false) c.interleaved.ensures c.interleaved-2.ensures

@@ -2,14 +2,13 @@
 use Prim.Native.Nat.{ℕ, ◌+◌, ◌*◌, ◌≤◌, ◌<◌, max}
 use mathlib.Core.Path.{◌≡◌, refl, sym, ◌∙◌, ap}
 use mathlib.Core.List.{List}
-use native.Mathlib.Omega.{arith}
 use borrow.Author.Tests.{lt-ltb, le-ltb}
 use lib.ListN.{get_or, set}
 use Rattle.chain.specs.declared.Place.TheVariants.{Running}
 use Rattle.chain.specs.declared.Job.{Job}
 use Rattle.chain.specs.Unit.{response}
 use Rattle.machine.specs.Tick.{noted_at}
-use Rattle.chain.proofs.Places.{rests, part_small}
+use Rattle.chain.proofs.Places.{rests}
 use Rattle.machine.proofs.note.Goals as goal
 
 module _ (bounds : List ℕ) (t i j l : ℕ) (x : Job) (e : x.place ≡ Running j l) (worst : List ℕ) where
@@ -34,19 +33,7 @@ returns-then-left-gt1 c =
     let a = c.args in
     goes_on a.bounds.now a.t a.i c.in-Running.part c.in-Running.left a.x c.in-Running.is a.worst.now c.if-left-gt1.true
 
-pub response-response-requires : goal.response-response-requires
-response-response-requires c =
-    (c.requires.0, c.requires.2, omega arith, c.requires.3.arrived, part_small c.args.x.place c.in-Running.part c.in-Running.left c.requires.3.part c.in-Running.is)
-
-pub bounds-worst-k : goal.bounds-worst-k
-bounds-worst-k c =
-    omega (arith, c.requires.4, part_small c.args.x.place c.in-Running.part c.in-Running.left c.requires.3.part c.in-Running.is)
-
-pub bounds-worst-k-2 : goal.bounds-worst-k-2
-bounds-worst-k-2 c =
-    omega (arith, c.requires.4, part_small c.args.x.place c.in-Running.part c.in-Running.left c.requires.3.part c.in-Running.is)
-
 pub returns : goal.returns
 returns c =
     let a = c.args in
-    ends a.bounds.now a.t a.i c.in-Running.part c.in-Running.left a.x c.in-Running.is a.worst.now c.if-left-gt1.false c.response-response.result c.larger.result c.response-response.ensures c.larger.ensures
+    ends a.bounds.now a.t a.i c.in-Running.part c.in-Running.left a.x c.in-Running.is a.worst.now c.if-left-gt1.false c.response-response.result c.max.result c.response-response.ensures c.max.ensures

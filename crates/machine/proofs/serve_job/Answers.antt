@@ -1,5 +1,5 @@
 -- `machine::serve_job` meets its contract.
-use Prim.Native.Nat.{ℕ, suc, ◌+◌, ◌*◌}
+use Prim.Native.Nat.{ℕ, suc, ◌+◌}
 use mathlib.Core.Path.{◌≡◌, refl, sym, ◌∙◌, ap}
 use mathlib.Core.List.{List}
 use native.Mathlib.Omega.{arith}
@@ -28,25 +28,12 @@ pub returns-in_default : goal.returns-in_default
 unfolding serve_at
 returns-in_default c =
     let a = c.args in
-    rests (λ p. a.x ≡ serve_at a.picked.now a.bounds.now a.homes.now a.t a.i a.x p) refl (λ u j. refl) a.x.place c.in_default.not-Running
-
-pub bounds-homes-i : goal.bounds-homes-i
-bounds-homes-i c =
-    omega (arith, part_small c.args.x.place c.in-Running.part c.in-Running.left c.requires.4.part c.in-Running.is)
-
-pub overflow_cast-q-2 : goal.overflow_cast-q-2
-overflow_cast-q-2 c = omega (arith, c.requires.3 (3 * c.args.i + c.in-Running.part))
-
-pub offset_bounds-picked-q : goal.offset_bounds-picked-q
-offset_bounds-picked-q c = omega (arith, c.requires.3 (3 * c.args.i + c.in-Running.part))
-
-pub bounds-picked-q : goal.bounds-picked-q
-bounds-picked-q c = omega (arith, c.requires.3 (3 * c.args.i + c.in-Running.part))
+    rests (λ p. a.x ≡ serve_at a.picked.now a.c.now.bounds a.c.now.homes a.t a.i a.x p) refl (λ u j. refl) a.x.place c.in_default.not-Running
 
 pub returns-then-row-i : goal.returns-then-row-i
 returns-then-row-i c =
     let a = c.args in
-    waits a.picked.now a.bounds.now a.homes.now a.i a.t c.in-Running.part c.in-Running.left a.x c.in-Running.is c.if-row-i.true
+    waits a.picked.now a.c.now.bounds a.c.now.homes a.i a.t c.in-Running.part c.in-Running.left a.x c.in-Running.is c.if-row-i.true
 
 pub unit-requires : goal.unit-requires
 unit-requires c =
@@ -55,4 +42,4 @@ unit-requires c =
 pub returns : goal.returns
 returns c =
     let a = c.args in
-    runs a.picked.now a.bounds.now a.homes.now a.i a.t c.in-Running.part c.in-Running.left a.x c.in-Running.is c.if-row-i.false c.unit.result c.unit.ensures
+    runs a.picked.now a.c.now.bounds a.c.now.homes a.i a.t c.in-Running.part c.in-Running.left a.x c.in-Running.is c.if-row-i.false c.unit.result c.unit.ensures

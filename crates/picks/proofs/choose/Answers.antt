@@ -1,20 +1,28 @@
 -- `picks::choose` meets its contract.
-use mathlib.Core.Path.{sym}
 use borrow.Author.Tests.{lt-ltb, le-ltb}
-use Rattle.picks.proofs.Picked.{chosen_stage, chosen_first, chosen_last}
+use Rattle.picks.specs.Offer.{choice}
 use Rattle.picks.proofs.choose.Goals as goal
 
-pub returns-then-last-eq0 : goal.returns-then-last-eq0
-returns-then-last-eq0 c = sym (chosen_stage _ _ _ _ c.if-first-eq0.true c.if-last-eq0.true)
+pub returns-in-None : goal.returns-in-None
+unfolding choice
+returns-in-None c = rw (c.in-None-None.is-0, c.in-None-None.is-1, c.in-None.is)
 
-pub returns-then-first-eq0 : goal.returns-then-first-eq0
-returns-then-first-eq0 c = sym (chosen_last _ _ _ _ c.if-last-eq0.false (λ k. absurd (k c.if-first-eq0.true)))
+pub returns-in-Some : goal.returns-in-Some
+unfolding choice
+returns-in-Some c = rw (c.in-None-None.is-0, c.in-None-None.is-1, c.in-Some.is)
 
-pub returns-then-last-eq0-2 : goal.returns-then-last-eq0-2
-returns-then-last-eq0-2 c = sym (chosen_first _ _ _ _ c.if-first-eq0.false (λ k. absurd (k c.if-last-eq0-2.true)))
+pub returns-in-None-Some : goal.returns-in-None-Some
+unfolding choice
+returns-in-None-Some c = rw (c.in-None-Some.is-0, c.in-None-Some.is-1)
 
-pub returns-then-first-held : goal.returns-then-first-held
-returns-then-first-held c = sym (chosen_first _ _ _ _ c.if-first-eq0.false (λ k. lt-ltb _ _ c.if-first-held.true))
+pub returns-in-Some-None : goal.returns-in-Some-None
+unfolding choice
+returns-in-Some-None c = rw (c.in-Some-None.is-0, c.in-Some-None.is-1)
 
-pub returns-else-first-held : goal.returns-else-first-held
-returns-else-first-held c = sym (chosen_last _ _ _ _ c.if-last-eq0-2.false (λ k. le-ltb _ _ c.if-first-held.false))
+pub returns-then-first-o : goal.returns-then-first-o
+unfolding choice
+returns-then-first-o c = rw (c.in-Some-Some.is-0, c.in-Some-Some.is-1, lt-ltb c.in-Some-Some.first.key c.args.o.now.held c.if-first-o.true)
+
+pub returns-else-first-o : goal.returns-else-first-o
+unfolding choice
+returns-else-first-o c = rw (c.in-Some-Some.is-0, c.in-Some-Some.is-1, le-ltb c.in-Some-Some.first.key c.args.o.now.held c.if-first-o.false)

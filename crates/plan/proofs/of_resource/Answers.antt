@@ -1,5 +1,5 @@
 -- `plan::of_resource` meets its contract. The loop's invariant: the first k places are filled.
-use mathlib.Core.Path.{◌≡◌, sym, ◌∙◌}
+use mathlib.Core.Path.{sym, ◌∙◌}
 use native.Mathlib.Omega.{arith}
 use lib.ListN.{get_or}
 use Rattle.lists.proofs.Tab.{filled_none, filled_next}
@@ -8,23 +8,9 @@ use Rattle.plan.proofs.of_resource.Goals as goal
 pub loop-k-init : goal.loop-k-init
 loop-k-init c =
     let a = c.args in
-    (omega arith, c.no_column-out.ensures ∙ sym (filled_none 64 0 (λ k. get_or a.value.now (get_or a.resource.now k 0) 0)))
-
-pub overflow_cast-r : goal.overflow_cast-r
-overflow_cast-r c = omega (arith, c.requires.1 c.loop-k.k (omega arith))
-
-pub offset_bounds-value-r : goal.offset_bounds-value-r
-offset_bounds-value-r c = omega (arith, c.requires.1 c.loop-k.k (omega arith))
-
-pub bounds-value-r : goal.bounds-value-r
-bounds-value-r c = omega (arith, c.requires.1 c.loop-k.k (omega arith))
+    c.blank-out.ensures ∙ sym (filled_none 64 0 (λ k. get_or a.value.now (get_or a.resource.now k 0) 0))
 
 pub loop-k-preserved : goal.loop-k-preserved
 loop-k-preserved c =
     let a = c.args in
-    (omega arith, filled_next 64 0 (λ k. get_or a.value.now (get_or a.resource.now k 0) 0) c.loop-k.k c.loop-k.out (omega arith) c.loop-k.invariant.1)
-
-pub returns : goal.returns
-returns c =
-    let q : c.loop-k.k ≡ c.args.n = omega arith in
-    rw q at c.loop-k.invariant.1
+    filled_next 64 0 (λ k. get_or a.value.now (get_or a.resource.now k 0) 0) c.loop-k.k c.loop-k.out (omega arith) c.loop-k.invariant

@@ -3,9 +3,9 @@ use Rattle.plan.specs.Planning.{planned_of}
 use Rattle.plan.proofs.Ordered.{tasks_good}
 use Rattle.plan.proofs.plan_table.Goals as goal
 
-pub plan_tasks-requires : goal.plan_tasks-requires
-plan_tasks-requires c = rw c.tasks_of.ensures (tasks_good c.args.t c.requires)
+pub plan-requires : goal.plan-requires
+plan-requires c = rw c.tasks_of.ensures (tasks_good c.args.t.now c.requires)
 
 pub returns : goal.returns
 unfolding planned_of
-returns c = rw c.tasks_of.ensures at c.plan_tasks.ensures
+returns c = rw c.tasks_of.ensures at c.plan.ensures

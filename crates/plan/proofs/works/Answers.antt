@@ -1,6 +1,6 @@
 -- `plan::works` meets its contract. The loop's invariant: the first k places are filled.
 use Prim.Native.Nat.{◌+◌}
-use mathlib.Core.Path.{◌≡◌, sym, ◌∙◌}
+use mathlib.Core.Path.{sym, ◌∙◌}
 use native.Mathlib.Omega.{arith}
 use lib.ListN.{get_or}
 use Rattle.lists.proofs.Tab.{filled_none, filled_next}
@@ -9,17 +9,9 @@ use Rattle.plan.proofs.works.Goals as goal
 pub loop-k-init : goal.loop-k-init
 loop-k-init c =
     let a = c.args in
-    (omega arith, c.no_column-out.ensures ∙ sym (filled_none 64 0 (λ k. get_or a.c1.now k 0 + get_or a.c2.now k 0)))
-
-pub overflow_add-out : goal.overflow_add-out
-overflow_add-out c = omega (arith, c.requires.1 c.loop-k.k (omega arith))
+    c.blank-out.ensures ∙ sym (filled_none 64 0 (λ k. get_or a.c1.now k 0 + get_or a.c2.now k 0))
 
 pub loop-k-preserved : goal.loop-k-preserved
 loop-k-preserved c =
     let a = c.args in
-    (omega arith, filled_next 64 0 (λ k. get_or a.c1.now k 0 + get_or a.c2.now k 0) c.loop-k.k c.loop-k.out (omega arith) c.loop-k.invariant.1)
-
-pub returns : goal.returns
-returns c =
-    let q : c.loop-k.k ≡ c.args.n = omega arith in
-    rw q at c.loop-k.invariant.1
+    filled_next 64 0 (λ k. get_or a.c1.now k 0 + get_or a.c2.now k 0) c.loop-k.k c.loop-k.out (omega arith) c.loop-k.invariant

@@ -1,12 +1,7 @@
 -- `plan::works` meets its contract. The loop's invariant: the first k places are filled.
-use Prim.Native.Nat.{◌-◌, ◌≤◌}
 use mathlib.Core.Path.{◌≡◌}
 use Rattle.plan.specs.Tasks.{works_of}
 use Rattle.plan.proofs.works.Given as goal
 
 abbrev pub invariant-loop-k : goal.invariant-loop-k
-invariant-loop-k l =
-    (l.k ≤ l.n) × (l.out ≡ works_of l.c1 l.c2 l.k)
-
-abbrev pub decreases-loop-k : goal.decreases-loop-k
-decreases-loop-k l = l.n - l.k
+invariant-loop-k l = l.out ≡ works_of l.c1 l.c2 l.k

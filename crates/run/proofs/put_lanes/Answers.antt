@@ -11,7 +11,7 @@ use Rattle.run.proofs.put_lanes.Goals as goal
 
 pub loop-k-init : goal.loop-k-init
 unfolding joined
-loop-k-init c = (omega arith, refl)
+loop-k-init c = refl
 
 -- the trace has room for one tick more
 room : (m at k ticks size : ℕ) → k + 1 ≤ ticks → at + m * ticks ≤ size → at + m * k + m ≤ size
@@ -28,21 +28,15 @@ overflow_add-at c =
 pub store-requires : goal.store-requires
 store-requires c =
     let l = c.loop-k in
-    omega (arith, room (length c.args.lane.now) c.args.at l.k c.args.ticks (length c.args.trace.now) (omega arith) c.requires, stored_length c.args.trace.now c.args.at (joined l.k (λ i. c.args.lane.now)) l.invariant.1)
+    omega (arith, room (length c.args.lane.now) c.args.at l.k c.args.ticks (length c.args.trace.now) (omega arith) c.requires, stored_length c.args.trace.now c.args.at (joined l.k (λ i. c.args.lane.now)) l.invariant)
 
 pub loop-k-preserved : goal.loop-k-preserved
 loop-k-preserved c =
     let a = c.args in
     let l = c.loop-k in
-    (omega arith, joined_next (length a.lane.now) (λ i. a.lane.now) (λ i. refl) a.trace.now a.at l.k l.invariant.1 c.store.ensures)
-
-pub shape_of-trace : goal.shape_of-trace
-shape_of-trace c =
-    let a = c.args in
-    let l = c.loop-k in
-    stored_length a.trace.now a.at (joined l.k (λ i. a.lane.now)) l.invariant.1
+    joined_next (length a.lane.now) (λ i. a.lane.now) (λ i. refl) a.trace.now a.at l.k l.invariant c.store.ensures
 
 pub returns : goal.returns
 returns c =
     let q : c.loop-k.k ≡ c.args.ticks = omega arith in
-    rw q at c.loop-k.invariant.1
+    rw q at c.loop-k.invariant

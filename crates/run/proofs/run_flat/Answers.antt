@@ -1,90 +1,64 @@
 -- `run::run_flat` meets its contract: the refusals 1 to 18 in their order, then the ticks.
-use Prim.Native.Nat.{ℕ, ◌≤◌}
-use mathlib.Core.Path.{◌≡◌, sym, ◌∙◌, ap}
-use lib.ListN.{length}
-use Rattle.run.specs.Run.{stepped_of, shown_of}
-use Rattle.machine.specs.Chart.{chart_of}
-use Rattle.machine.specs.declared.Chart.{Chart}
-use Rattle.plan.specs.declared.Tried.{Tried}
-use Rattle.arrivals.proofs.Flat.{length_arrivals}
-use Rattle.run.proofs.Charted.{good_chart, coming}
+use mathlib.Core.Path.{◌≡◌, refl, sym, ◌∙◌, ap}
 use native.Mathlib.Omega.{arith}
+use lib.ListN.{length}
+use Rattle.std.specs.Prelude.{Ok, Err}
 use Rattle.table.proofs.Good.{table_good}
-use Rattle.arrivals.specs.Arrival.{arrivals_of}
+use Rattle.table.proofs.Laws.{number_some}
+use Rattle.plan.specs.Planning.{is_planned, planned_of}
+use Rattle.plan.specs.Trial.{plan_in}
+use Rattle.arrivals.specs.Arrival.{listed}
+use Rattle.arrivals.proofs.Numbers.{length_arrivals}
+use Rattle.machine.specs.declared.Chart.{Chart}
+use Rattle.machine.specs.Chart.{chart_of}
+use Rattle.run.specs.Run.{stepped_of, shown_of}
+use Rattle.run.proofs.Charted.{good_chart, coming}
 use Rattle.run.proofs.Calls.{bad_table, no_plan_lem, bad_call, runs, allowed}
 use Rattle.run.proofs.run_flat.Goals as goal
 
-none : {x : ℕ} → x ≤ 0 → x ≡ 0
-none h = omega arith
-
-pub returns-then-r-gt0 : goal.returns-then-r-gt0
-returns-then-r-gt0 c =
-    let r = c.read_table-r.result in
-    let e = c.read_table-r.ensures in
+pub returns-in-Err : goal.returns-in-Err
+returns-in-Err c =
     let a = c.args in
-    let xs = arrivals_of a.flat.now a.count in
-    rw (sym e, c.refused.ensures) (bad_table r xs a.from a.ticks a.trace.now c.if-r-gt0.true)
+    rw (sym c.read_table.ensures, c.in-Err.is, c.refused.ensures, c.number.ensures, c.names.ensures) (bad_table (Err c.in-Err.e) (listed a.xs.now) a.from a.ticks a.trace.now (number_some c.in-Err.e))
 
-pub plan_table-tried-requires : goal.plan_table-tried-requires
-plan_table-tried-requires c =
-    let r = c.read_table-r.result in
-    let e = c.read_table-r.ensures in
-    let a = c.args in
-    let xs = arrivals_of a.flat.now a.count in
-    table_good a.table.now r e (omega (arith, c.if-r-gt0.false))
+pub plan_table-requires : goal.plan_table-requires
+plan_table-requires c = table_good c.args.table.now (Ok c.in-Ok.t) (sym c.in-Ok.is ∙ c.read_table.ensures) refl
 
-pub returns-in-Failed : goal.returns-in-Failed
-returns-in-Failed c =
-    let r = c.read_table-r.result in
-    let e = c.read_table-r.ensures in
+pub returns-in-Err-plan_table : goal.returns-in-Err-plan_table
+returns-in-Err-plan_table c =
     let a = c.args in
-    let xs = arrivals_of a.flat.now a.count in
-    rw (sym e, c.refused-in-Failed.ensures) (no_plan_lem r xs a.from a.ticks a.trace.now (omega (arith, c.if-r-gt0.false)) c.plan_table-tried.result c.plan_table-tried.ensures c.in-Failed.row c.in-Failed.mark c.in-Failed.value c.in-Failed.is)
+    rw (sym c.read_table.ensures, c.in-Ok.is, c.refused-in-Err-plan_table.ensures, c.number-in-Err-plan_table.ensures) (no_plan_lem (Ok c.in-Ok.t) (listed a.xs.now) a.from a.ticks a.trace.now refl c.plan_table.result c.plan_table.ensures c.in-Err-plan_table.e c.in-Err-plan_table.is)
 
-pub check_call-call-requires : goal.check_call-call-requires
-check_call-call-requires c =
-    let r = c.read_table-r.result in
-    let e = c.read_table-r.ensures in
-    let a = c.args in
-    let xs = arrivals_of a.flat.now a.count in
-    (c.requires, table_good a.table.now r e (omega (arith, c.if-r-gt0.false)))
+pub check_call-requires : goal.check_call-requires
+check_call-requires c = table_good c.args.table.now (Ok c.in-Ok.t) (sym c.in-Ok.is ∙ c.read_table.ensures) refl
 
-pub returns-then-call-gt0 : goal.returns-then-call-gt0
-returns-then-call-gt0 c =
-    let r = c.read_table-r.result in
-    let e = c.read_table-r.ensures in
-    let a = c.args in
-    let xs = arrivals_of a.flat.now a.count in
-    rw (sym e, c.refused-then-call-gt0.ensures) (bad_call r xs a.from a.ticks a.trace.now (omega (arith, c.if-r-gt0.false)) c.plan_table-tried.result c.plan_table-tried.ensures c.in_default.is c.check_call-call.result.number c.check_call-call.result.position c.check_call-call.ensures c.if-call-gt0.true)
-
-pub chart_of-c-requires : goal.chart_of-c-requires
-chart_of-c-requires c =
-    let r = c.read_table-r.result in
-    let e = c.read_table-r.ensures in
-    let a = c.args in
-    let xs = arrivals_of a.flat.now a.count in
-    table_good a.table.now r e (omega (arith, c.if-r-gt0.false))
+pub chart_of-requires : goal.chart_of-requires
+chart_of-requires c = table_good c.args.table.now (Ok c.in-Ok.t) (sym c.in-Ok.is ∙ c.read_table.ensures) refl
 
 pub run_ticks-requires : goal.run_ticks-requires
 unfolding chart_of
 run_ticks-requires c =
-    let r = c.read_table-r.result in
-    let e = c.read_table-r.ensures in
     let a = c.args in
-    let xs = arrivals_of a.flat.now a.count in
-    let g = table_good a.table.now r e (omega (arith, c.if-r-gt0.false)) in
-    let p = c.plan_table-tried.ensures in
-    let o = c.in_default.is in
-    let k = allowed r.table xs a.from a.ticks (length a.trace.now) (sym c.check_call-call.ensures.0 ∙ none c.if-call-gt0.false) in
-    rw (c.chart_of-c.ensures, p)
-    (k.early, k.short, omega (arith, length_arrivals a.flat.now a.count, k.few), c.requires, good_chart r.table g (ap (λ (x : Tried). x.outcome) (sym p) ∙ o), k.room, coming r.table g xs k.few k.good)
+    let t = c.in-Ok.t in
+    let xs = listed a.xs.now in
+    let g = table_good a.table.now (Ok t) (sym c.in-Ok.is ∙ c.read_table.ensures) refl in
+    let o = sym c.plan_table.ensures ∙ c.in-Ok-plan_table.is in
+    let k = allowed t xs a.from a.ticks (length a.trace.now) c.in-Ok-check_call.ensures.ok in
+    let plan : c.in-Ok-plan_table.p ≡ plan_in (planned_of t) = ap plan_in (sym o) in
+    rw (c.chart_of.ensures, plan)
+    (k.early, k.short, omega (arith, length_arrivals a.xs.now.numbers a.xs.now.count, k.few), good_chart t g (ap is_planned o), k.room, coming t g xs k.few k.good)
 
-pub returns : goal.returns
-returns c =
-    let r = c.read_table-r.result in
-    let e = c.read_table-r.ensures in
+pub returns-in-Ok-check_call : goal.returns-in-Ok-check_call
+returns-in-Ok-check_call c =
     let a = c.args in
-    let xs = arrivals_of a.flat.now a.count in
-    let w = runs r xs a.from a.ticks a.trace.now (omega (arith, c.if-r-gt0.false)) c.plan_table-tried.result c.plan_table-tried.ensures c.in_default.is (sym c.check_call-call.ensures.0 ∙ none c.if-call-gt0.false) in
+    let t = c.in-Ok.t in
+    let xs = listed a.xs.now in
+    let w = runs (Ok t) xs a.from a.ticks a.trace.now refl c.plan_table.result c.plan_table.ensures c.in-Ok-plan_table.p c.in-Ok-plan_table.is c.in-Ok-check_call.ensures.ok in
     let q = c.run_ticks.ensures in
-    rw (sym e) (q.0 ∙ ap (λ (x : Chart). stepped_of x xs a.from a.ticks) c.chart_of-c.ensures ∙ w.0, q.1 ∙ ap (λ (x : Chart). shown_of x xs a.from a.ticks a.trace.now) c.chart_of-c.ensures ∙ w.1)
+    rw (sym c.read_table.ensures, c.in-Ok.is) (q.0 ∙ ap (λ (x : Chart). stepped_of x xs a.from a.ticks) c.chart_of.ensures ∙ w.0, q.1 ∙ ap (λ (x : Chart). shown_of x xs a.from a.ticks a.trace.now) c.chart_of.ensures ∙ w.1)
+
+pub returns-in-Err-check_call : goal.returns-in-Err-check_call
+returns-in-Err-check_call c =
+    let a = c.args in
+    let e = c.in-Err-check_call.ensures.err in
+    rw (sym c.read_table.ensures, c.in-Ok.is, c.refused-in-Err-check_call.ensures) (bad_call (Ok c.in-Ok.t) (listed a.xs.now) a.from a.ticks a.trace.now refl c.plan_table.result c.plan_table.ensures c.in-Ok-plan_table.p c.in-Ok-plan_table.is c.in-Err-check_call.e.number c.in-Err-check_call.e.names (e.0, e.1) e.2)

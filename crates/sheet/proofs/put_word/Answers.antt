@@ -12,7 +12,7 @@ pub loop-left-preserved : goal.loop-left-preserved
 loop-left-preserved c =
     let l = c.loop-left in
     let a = c.args in
-    (omega arith, simp length-set l.invariant.1, sets-bytes l.part a.at l.left l.rest (omega arith) ∙ l.invariant.2)
+    (simp length-set l.invariant.0, sets-bytes l.part a.at l.left l.rest (omega arith) ∙ l.invariant.1)
 
 pub returns : goal.returns
 unfolding bytes_of
@@ -20,4 +20,4 @@ returns c =
     let l = c.loop-left in
     let a = c.args in
     let z : l.left ≡ 0 = omega arith in
-    ap (λ (k : ℕ). sets l.part a.at (bytes_of k l.rest)) (sym z) ∙ l.invariant.2
+    ap (λ (k : ℕ). sets l.part a.at (bytes_of k l.rest)) (sym z) ∙ l.invariant.1

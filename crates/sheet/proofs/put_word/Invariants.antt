@@ -1,5 +1,4 @@
 -- `sheet::put_word` meets its contract. The loop's invariant: with what is left of the number stored, all of it is.
-use Prim.Native.Nat.{◌≤◌}
 use mathlib.Core.Path.{◌≡◌}
 use lib.ListN.{length}
 use lib.Seq.{sets}
@@ -8,7 +7,4 @@ use Rattle.sheet.proofs.put_word.Given as goal
 
 abbrev pub invariant-loop-left : goal.invariant-loop-left
 invariant-loop-left l =
-    (l.left ≤ l.count) × (length l.part ≡ length l.initial.part) × (sets l.part l.at (bytes_of l.left l.rest) ≡ sets l.initial.part l.at (bytes_of l.count l.x))
-
-abbrev pub decreases-loop-left : goal.decreases-loop-left
-decreases-loop-left l = l.left
+    (length l.part ≡ length l.initial.part) × (sets l.part l.at (bytes_of l.left l.rest) ≡ sets l.initial.part l.at (bytes_of l.count l.x))

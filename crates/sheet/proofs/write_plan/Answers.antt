@@ -10,11 +10,9 @@ pub returns : goal.returns
 unfolding plan_bytes
 returns c =
     let a = c.args in
-    let header = header_bytes a.n a.m a.s in
-    let resources = resource_bytes a.serves.now in
-    let tasks = joined a.n (task_of a.processor.now a.d1.now a.section.now a.d2.now) in
-    let e1 = c.put_header.ensures in
-    let e2 = c.put_resources.ensures in
-    let e3 = c.put_tasks.ensures in
-    sets_then a.part.now 0 2 header (resources ++ tasks) (length_header a.n a.m a.s) e1
-    (sets_then c.put_header.new.part 2 10 resources tasks (length-resources a.serves.now) e2 e3)
+    let p = a.p.now in
+    let header = header_bytes a.n a.m p.s in
+    let resources = resource_bytes p.serves in
+    let tasks = joined a.n (task_of p.processor p.d1 p.section p.d2) in
+    sets_then a.part.now 0 2 header (resources ++ tasks) (length_header a.n a.m p.s) c.put_header.ensures
+    (sets_then c.put_header.new.part 2 10 resources tasks (length-resources p.serves) c.put_resources.ensures c.put_tasks.ensures)

@@ -1,12 +1,9 @@
 -- `spread::weight_of` meets its contract. The loop's invariant: `sum` is what the first k rows weigh, at most a million each.
-use Prim.Native.Nat.{◌-◌, ◌*◌, ◌≤◌}
+use Prim.Native.Nat.{◌*◌, ◌≤◌}
 use mathlib.Core.Path.{◌≡◌}
 use Rattle.spread.specs.Weight.{weight_of}
 use Rattle.spread.proofs.weight_of.Given as goal
 
 abbrev pub invariant-loop-k : goal.invariant-loop-k
 invariant-loop-k l =
-    (l.k ≤ l.n) × (l.sum ≡ weight_of l.period l.section l.resource l.k l.r) × (l.sum ≤ l.k * 1000000)
-
-abbrev pub decreases-loop-k : goal.decreases-loop-k
-decreases-loop-k l = l.n - l.k
+    (l.sum ≡ weight_of l.period l.section l.resource l.k l.r) × (l.sum ≤ l.k * 1000000)

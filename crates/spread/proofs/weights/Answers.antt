@@ -8,13 +8,13 @@ use Rattle.spread.proofs.weights.Goals as goal
 pub loop-r-init : goal.loop-r-init
 loop-r-init c =
     let a = c.args in
-    (omega arith, c.no_numbered-out.ensures ∙ sym (filled_none 17 0 (weight_of a.period.now a.section.now a.resource.now a.n)))
+    c.blank-out.ensures ∙ sym (filled_none 17 0 (weight_of a.period.now a.section.now a.resource.now a.n))
 
 pub loop-r-preserved : goal.loop-r-preserved
 loop-r-preserved c =
     let l = c.loop-r in
     let a = c.args in
-    (omega arith, rw (l.invariant.1, c.weight_of.ensures.0) (filled_more 17 0 (weight_of a.period.now a.section.now a.resource.now a.n) l.r (omega arith)))
+    rw (l.invariant, c.weight_of.ensures.0) (filled_more 17 0 (weight_of a.period.now a.section.now a.resource.now a.n) l.r (omega arith))
 
 pub returns : goal.returns
 unfolding weights_of
@@ -22,4 +22,4 @@ returns c =
     let l = c.loop-r in
     let a = c.args in
     let q : l.r ≡ 17 = omega arith in
-    (rw q at l.invariant.1) ∙ filled_all 17 0 (weight_of a.period.now a.section.now a.resource.now a.n)
+    (rw q at l.invariant) ∙ filled_all 17 0 (weight_of a.period.now a.section.now a.resource.now a.n)

@@ -1,23 +1,18 @@
 -- `stages::first_fit` meets its contract. The loop's invariant: no processor before p has a fit, and the value is the smallest of theirs.
-use Prim.Native.Nat.{ℕ, ◌+◌, ◌-◌, ◌≤◌, ◌<◌}
+use Prim.Native.Nat.{ℕ}
 use mathlib.Core.Path.{◌≡◌}
-use mathlib.Core.List.{List}
 use lib.ListN.{get_or}
 use Rattle.bounds.specs.Terms.{lane}
-use Rattle.stages.specs.declared.Fit.{Fit}
-use Rattle.stages.specs.Fit.{fit_among}
-use Rattle.stages.proofs.Fitting.{NoFit, smallest_to}
+use Rattle.bounds.specs.declared.Lanes.{Lanes}
+use Rattle.stages.specs.Fit.{Fit, fit_among}
+use Rattle.stages.proofs.Fitting.{NoFit, least_to}
 use Rattle.stages.proofs.first_fit.Given as goal
 
 -- how a task of these numbers fits a processor, beside the terms in its lane
-abbrev pub fits : List ℕ → List ℕ → List ℕ → ℕ → ℕ → ℕ → ℕ → ℕ → Fit
-fits periods lens count c1 c2 section period p = fit_among (lane periods lens p (get_or count p 0)) c1 c2 section period
+abbrev pub fits : Lanes → ℕ → ℕ → ℕ → ℕ → ℕ → Fit
+fits lanes c1 c2 section period p = fit_among (lane lanes.terms p (get_or lanes.count p 0)) c1 c2 section period
 
 abbrev pub invariant-loop-p : goal.invariant-loop-p
 invariant-loop-p l =
-    (l.s < l.p) × (l.p ≤ l.m + 1)
-    × NoFit (fits l.periods l.lens l.count l.c1 l.c2 l.section l.period) l.s l.m l.p
-    × (l.value ≡ smallest_to (fits l.periods l.lens l.count l.c1 l.c2 l.section l.period) l.s l.m l.p)
-
-abbrev pub decreases-loop-p : goal.decreases-loop-p
-decreases-loop-p l = l.m + 1 - l.p
+    NoFit (fits l.lanes l.need.c1 l.need.c2 l.need.section l.need.period) l.s l.m l.p
+    × (l.least ≡ least_to (fits l.lanes l.need.c1 l.need.c2 l.need.section l.need.period) l.s l.m l.p)

@@ -1,9 +1,9 @@
 -- `stages::place_tasks` meets its contract. The loop's invariant: the first k tasks have their places, and stand in the lanes of their processors.
 use Prim.Native.Nat.{◌<◌}
-use mathlib.Core.Path.{◌≡◌, refl, sym, ◌∙◌, ap}
+use mathlib.Core.Path.{◌≡◌, sym, ◌∙◌, ap}
 use native.Mathlib.Omega.{arith}
-use lib.ListN.{length, get_or}
-use Rattle.bounds.proofs.Lanes.{lanes_none, lanes_good}
+use lib.ListN.{length}
+use Rattle.bounds.proofs.Filling.{lanes_none, lanes_good}
 use Rattle.stages.proofs.Fitting.{place_in}
 use Rattle.stages.proofs.Placing.{good_term, length-placed, held_none, held_more, place_found, lanes_next, stages_nowhere, stages_all}
 use Rattle.stages.proofs.place_tasks.Goals as goal
@@ -11,41 +11,43 @@ use Rattle.stages.proofs.place_tasks.Goals as goal
 pub loop-k-init : goal.loop-k-init
 loop-k-init c =
     let a = c.args in (
-      omega arith,
-      held_none a.period.now a.c1.now a.c2.now a.work.now a.section.now a.s a.m c.no_column-processor.result c.no_column-d1.result c.no_column-d2.result c.no_column-processor.ensures c.no_column-d1.ensures c.no_column-d2.ensures,
-      lanes_none a.period.now a.work.now c.no_column-processor.result c.no_lanes-ps.result c.no_lanes-ls.result c.no_numbered-count.result c.no_lanes-ps.ensures c.no_lanes-ls.ensures c.no_numbered-count.ensures,
+      held_none a.period.now a.c1.now a.c2.now a.work.now a.section.now a.s a.m c.blank.result c.blank-2.result c.blank-3.result c.blank.ensures c.blank-2.ensures c.blank-3.ensures,
+      lanes_none a.period.now a.work.now c.blank.result c.new-lanes.result c.new-lanes.ensures.0 c.new-lanes.ensures.1,
     )
 
-pub first_fit-place-requires : goal.first_fit-place-requires
-first_fit-place-requires c =
+pub invariant_of-need : goal.invariant_of-need
+invariant_of-need c =
+    let l = c.loop-k in
+    let t = c.requires.period l.k (omega arith) in
+    let w = c.requires.work l.k (omega arith) in
+    record { in_period = (omega (arith, w.0, w.1, t.1), omega (arith, w.0, w.1, t.1), c.requires.section l.k (omega arith), t.1) }
+
+pub first_fit-requires : goal.first_fit-requires
+first_fit-requires c =
     let a = c.args in
     let g = c.requires in
     let l = c.loop-k in
     let few : l.k < 64 = omega (arith, g.few) in
-    let t = g.period l.k (omega arith) in
-    let w = g.work l.k (omega arith) in
-    let terms = lanes_good a.period.now a.work.now l.invariant.2 (λ i b. good_term a.period.now a.c1.now a.c2.now a.work.now a.section.now a.s a.m a.n g i (omega arith)) in
-    (g.processors.0, g.processors.1, l.invariant.2.long.0, l.invariant.2.long.1, omega (arith, w.0, w.1, t.1), omega (arith, w.0, w.1, t.1), g.section l.k (omega arith), t.1, λ p b. (omega (arith, l.invariant.2.few p b), terms p b))
+    let terms = lanes_good a.period.now a.work.now l.invariant.1 (λ i b. good_term a.period.now a.c1.now a.c2.now a.work.now a.section.now a.s a.m a.n g i (omega arith)) in
+    (g.processors.0, g.processors.1, λ p b. (omega (arith, l.invariant.1.few p b), terms p b))
 
-pub add_term-requires : goal.add_term-requires
-add_term-requires c =
+pub add-requires : goal.add-requires
+add-requires c =
     let a = c.args in
     let l = c.loop-k in
     let few : l.k < 64 = omega (arith, c.requires.few) in
     let m = c.requires.processors.1 in
-    let i = place_in _ a.s a.m c.in-On.p c.in-On.x c.in-On.y (sym c.first_fit-place.ensures ∙ c.in-On.is) in
-    let p : c.in-On.p < 17 = omega (arith, i.1, m) in
-    (p, omega (arith, few, l.invariant.2.few c.in-On.p p), l.invariant.2.long.0, l.invariant.2.long.1)
+    let x = c.in-Ok.spot in
+    let i = place_in _ a.s a.m x.processor x.d1 x.d2 (sym c.in-Ok.ensures) in
+    let p : x.processor < 17 = omega (arith, i.1, m) in
+    (p, omega (arith, few, l.invariant.1.few x.processor p))
 
-pub returns-in-Nowhere : goal.returns-in-Nowhere
-returns-in-Nowhere c =
+pub returns-in-Err : goal.returns-in-Err
+returns-in-Err c =
     let a = c.args in
     let l = c.loop-k in
-    let e = sym (place_found a.period.now a.c1.now a.c2.now a.work.now a.section.now a.s a.m l.k c.requires.processors.1 l.invariant.1 l.invariant.2) ∙ sym c.first_fit-place.ensures ∙ c.in-Nowhere.is in
-    stages_nowhere a.period.now a.c1.now a.c2.now a.work.now a.section.now a.s a.m a.n l.k c.in-Nowhere.value (omega arith) l.invariant.1 e
-
-pub overflow_add-k : goal.overflow_add-k
-overflow_add-k c = omega (arith, c.requires.few, c.loop-k-test.true)
+    let e = sym (place_found a.period.now a.c1.now a.c2.now a.work.now a.section.now a.s a.m l.k c.requires.processors.1 l.invariant.0 l.invariant.1) ∙ sym c.in-Err.ensures in
+    stages_nowhere a.period.now a.c1.now a.c2.now a.work.now a.section.now a.s a.m a.n l.k c.in-Err.broke.value (omega arith) l.invariant.0 e
 
 pub loop-k-preserved : goal.loop-k-preserved
 loop-k-preserved c =
@@ -53,17 +55,16 @@ loop-k-preserved c =
     let l = c.loop-k in
     let few : l.k < 64 = omega (arith, c.requires.few) in
     let m = c.requires.processors.1 in
-    let on = sym c.first_fit-place.ensures ∙ c.in-On.is in
-    let p = c.in-On.p in
-    let i = place_in _ a.s a.m p c.in-On.x c.in-On.y on in
-    let e = sym (place_found a.period.now a.c1.now a.c2.now a.work.now a.section.now a.s a.m l.k m l.invariant.1 l.invariant.2) ∙ on in
-    let h = held_more a.period.now a.c1.now a.c2.now a.work.now a.section.now a.s a.m l.k p c.in-On.x c.in-On.y few e l.invariant.1 in
-    let x = lanes_next a.period.now a.c1.now a.c2.now a.work.now a.section.now a.s a.m l.k p (get_or l.count p 0) few (omega (arith, i.1, m)) (ap length l.invariant.1.processors ∙ length-placed a.period.now a.c1.now a.c2.now a.work.now a.section.now a.s a.m l.k) refl l.invariant.2 in
-    (omega arith, h, rw (c.add_term.ensures.0, c.add_term.ensures.1, c.add_term.ensures.2) x)
+    let x = c.in-Ok.spot in
+    let i = place_in _ a.s a.m x.processor x.d1 x.d2 (sym c.in-Ok.ensures) in
+    let e = sym (place_found a.period.now a.c1.now a.c2.now a.work.now a.section.now a.s a.m l.k m l.invariant.0 l.invariant.1) ∙ sym c.in-Ok.ensures in (
+      held_more a.period.now a.c1.now a.c2.now a.work.now a.section.now a.s a.m l.k x.processor x.d1 x.d2 few e l.invariant.0,
+      lanes_next a.period.now a.c1.now a.c2.now a.work.now a.section.now a.s a.m l.k x.processor few (omega (arith, i.1, m)) (ap length l.invariant.0.processors ∙ length-placed a.period.now a.c1.now a.c2.now a.work.now a.section.now a.s a.m l.k) l.invariant.1 c.add.ensures.0 c.add.ensures.1,
+    )
 
 pub returns : goal.returns
 returns c =
     let a = c.args in
     let l = c.loop-k in
     let q : l.k ≡ a.n = omega arith in
-    stages_all a.period.now a.c1.now a.c2.now a.work.now a.section.now a.s a.m a.n (rw q at l.invariant.1)
+    stages_all a.period.now a.c1.now a.c2.now a.work.now a.section.now a.s a.m a.n (rw q at l.invariant.0)

@@ -33,45 +33,26 @@ module _ (jobs picked rank top : List ℕ) where
       rw (e, j) at g
 
 pub loop-q-init : goal.loop-q-init
-loop-q-init c = (omega arith, omega arith, λ h p l. absurd (omega arith))
-
-pub overflow_cast-row : goal.overflow_cast-row
-overflow_cast-row c = omega (arith, c.requires.1 c.loop-q.q)
-
-pub job_at-x-requires : goal.job_at-x-requires
-job_at-x-requires c = (omega (arith, c.requires.1 c.loop-q.q), c.requires.0)
-
-pub offset_bounds-rank-i : goal.offset_bounds-rank-i
-offset_bounds-rank-i c = omega (arith, c.requires.1 c.loop-q.q)
-
-pub bounds-rank-i : goal.bounds-rank-i
-bounds-rank-i c = omega (arith, c.requires.1 c.loop-q.q)
-
-pub offset_bounds-top-i : goal.offset_bounds-top-i
-offset_bounds-top-i c = omega (arith, c.requires.1 c.loop-q.q)
-
-pub bounds-top-i : goal.bounds-top-i
-bounds-top-i c = omega (arith, c.requires.1 c.loop-q.q)
+loop-q-init c = (omega arith, λ h p l. absurd (omega arith))
 
 pub loop-q-preserved : goal.loop-q-preserved
 loop-q-preserved c =
     let a = c.args in
     let l = c.loop-q in (
-      omega arith,
       elim c.if-row-gt0.branch [
-        | then-row-gt0 w ↦ omega (arith, w.ticks-is, w.goes_on-ticks.ensures.0, l.invariant.1)
-        | else-row-gt0 w ↦ omega (arith, w.ticks-is, l.invariant.1)
+        | then-row-gt0 w ↦ omega (arith, w.ticks-is, w.goes_on-ticks.ensures.0, l.invariant.0)
+        | else-row-gt0 w ↦ omega (arith, w.ticks-is, l.invariant.0)
       ],
       elim c.if-row-gt0.branch [
         | then-row-gt0 w ↦
             let r = w.goes_on-ticks.result in
             rw w.ticks-is
-            (goes_more a.jobs.now a.picked.now a.rank.now a.top.now l.q l.ticks r w.goes_on-ticks.ensures.0 l.invariant.2
-            (λ h. row_goes a.jobs.now a.picked.now a.rank.now a.top.now l.q r w.job_at-x.result w.job_at-x.ensures (w.goes_on-ticks.ensures.1 h)))
+            (goes_more a.jobs.now a.picked.now a.c.now.rank a.c.now.top l.q l.ticks r w.goes_on-ticks.ensures.0 l.invariant.1
+            (λ h. row_goes a.jobs.now a.picked.now a.c.now.rank a.c.now.top l.q r w.job_at-x.result w.job_at-x.ensures (w.goes_on-ticks.ensures.1 h)))
         | else-row-gt0 w ↦
-            goes_more a.jobs.now a.picked.now a.rank.now a.top.now l.q l.ticks c.if-row-gt0.ticks (omega (arith, w.ticks-is)) l.invariant.2 (λ h i e. absurd (omega (arith, w.if-row-gt0.false)))
+            goes_more a.jobs.now a.picked.now a.c.now.rank a.c.now.top l.q l.ticks c.if-row-gt0.ticks (omega (arith, w.ticks-is)) l.invariant.1 (λ h i e. absurd (omega (arith, w.if-row-gt0.false)))
       ],
     )
 
 pub returns : goal.returns
-returns c = (c.loop-q.invariant.1, λ h q i l e. c.loop-q.invariant.2 h q (omega arith) i e)
+returns c = (c.loop-q.invariant.0, λ h q i l e. c.loop-q.invariant.1 h q (omega arith) i e)

@@ -1,5 +1,5 @@
 -- `stretch::all_go_on` meets its contract. The loop's invariant: the rows that the processors passed pick go on for as many ticks as are left.
-use Prim.Native.Nat.{ℕ, suc, ◌-◌, ◌≤◌, ◌<◌}
+use Prim.Native.Nat.{ℕ, suc, ◌≤◌, ◌<◌}
 use mathlib.Core.Path.{◌≡◌}
 use mathlib.Core.List.{List}
 use lib.ListN.{get_or}
@@ -13,7 +13,4 @@ RowGoes jobs picked rank top k q = (i : ℕ) → get_or picked q 0 ≡ suc i →
 
 abbrev pub invariant-loop-q : goal.invariant-loop-q
 invariant-loop-q l =
-    (l.q ≤ 17) × (l.ticks ≤ l.most) × (1 < l.ticks → (p : ℕ) → p < l.q → RowGoes l.jobs l.picked l.rank l.top l.ticks p)
-
-abbrev pub decreases-loop-q : goal.decreases-loop-q
-decreases-loop-q l = 17 - l.q
+    (l.ticks ≤ l.most) × (1 < l.ticks → (p : ℕ) → p < l.q → RowGoes l.jobs l.picked l.c.rank l.c.top l.ticks p)

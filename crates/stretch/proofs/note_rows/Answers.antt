@@ -5,7 +5,7 @@ use mathlib.Core.List.{List}
 use native.Mathlib.Omega.{arith}
 use native.Mathlib.Numerals.{add-one}
 use borrow.Author.Rules.{rules}
-use lib.ListN.{get_or, length}
+use lib.ListN.{get_or}
 use Rattle.lists.specs.Tab.{tab}
 use Rattle.lists.proofs.Tab.{get_or-tab}
 use Rattle.chain.specs.declared.Job.{Job}
@@ -47,46 +47,37 @@ loop-q-init c = search rules
 
 pub overflow_cast-row : goal.overflow_cast-row
 overflow_cast-row c =
-    omega (arith, picked-le c.args.picked.now (λ q i. Ready c.args.t c.args.k (job_in c.args.jobs.now i)) c.requires.5 (c.loop-q.q + 1) (omega arith))
+    omega (arith, picked-le c.args.picked.now (λ q i. Ready c.args.t c.args.k (job_in c.args.jobs.now i)) c.requires.3 (c.loop-q.q + 1) (omega arith))
 
 pub job_at-x-requires : goal.job_at-x-requires
 job_at-x-requires c =
     let q = c.loop-q.q + 1 in
-    ((c.requires.5 q (get_or c.args.picked.now q 0 - 1) (omega arith) (omega arith)).0, c.requires.3)
+    (c.requires.3 q (get_or c.args.picked.now q 0 - 1) (omega arith) (omega arith)).0
 
 pub push-y-requires : goal.push-y-requires
 push-y-requires c =
     let q = c.loop-q.q + 1 in
-    push_fits (c.requires.5 q (get_or c.args.picked.now q 0 - 1) (omega arith) (omega arith)).1 c.job_at-x.ensures c.requires.1
+    push_fits (c.requires.3 q (get_or c.args.picked.now q 0 - 1) (omega arith) (omega arith)).1 c.job_at-x.ensures c.requires.1
 
 pub note-requires : goal.note-requires
 note-requires c =
     let l = c.loop-q in
     let q = l.q + 1 in
-    let p = c.requires.5 q (get_or c.args.picked.now q 0 - 1) (omega arith) (omega arith) in
-    (p.0, c.requires.1, c.requires.2, push_good p.1 c.job_at-x.ensures c.push-y.ensures, l.invariant.2)
+    let p = c.requires.3 q (get_or c.args.picked.now q 0 - 1) (omega arith) (omega arith) in
+    (p.0, c.requires.1, c.requires.2, push_good p.1 c.job_at-x.ensures c.push-y.ensures)
 
 pub loop-q-preserved : goal.loop-q-preserved
 loop-q-preserved c =
     let a = c.args in
     let l = c.loop-q in
     let f : ℕ → Job = λ i. push a.t a.k (job_in a.jobs.now i) in
-    let few = picked-le a.picked.now (λ q i. Ready a.t a.k (job_in a.jobs.now i)) c.requires.5 (l.q + 1) (omega arith) in (
-      omega arith,
-      elim c.if-row-gt0.branch [
-        | then-row-gt0 w ↦ w.worst-is ∙ noted_more a.bounds.now (a.t + a.k) f a.picked.now a.worst.now l.q l.worst l.invariant.1 w.push-y.result _ w.if-row-gt0.true few (w.push-y.ensures ∙ ap (λ (x : Job). push a.t a.k x) w.job_at-x.ensures) w.note.ensures
-        | else-row-gt0 w ↦ w.worst-is ∙ noted_none a.bounds.now (a.t + a.k) f a.picked.now a.worst.now l.q l.worst l.invariant.1 w.if-row-gt0.false
-      ],
-      elim c.if-row-gt0.branch [
-        | then-row-gt0 w ↦ ap length w.worst-is ∙ w.note.auto.worst ∙ l.invariant.2
-        | else-row-gt0 w ↦ ap length w.worst-is ∙ l.invariant.2
-      ],
-    )
-
-pub shape_of-worst : goal.shape_of-worst
-shape_of-worst c = c.loop-q.invariant.2 ∙ sym c.requires.4
+    let few = picked-le a.picked.now (λ q i. Ready a.t a.k (job_in a.jobs.now i)) c.requires.3 (l.q + 1) (omega arith) in
+    elim c.if-row-gt0.branch [
+      | then-row-gt0 w ↦ w.worst-is ∙ noted_more a.c.now.bounds (a.t + a.k) f a.picked.now a.worst.now l.q l.worst l.invariant w.push-y.result _ w.if-row-gt0.true few (w.push-y.ensures ∙ ap (λ (x : Job). push a.t a.k x) w.job_at-x.ensures) w.note.ensures
+      | else-row-gt0 w ↦ w.worst-is ∙ noted_none a.c.now.bounds (a.t + a.k) f a.picked.now a.worst.now l.q l.worst l.invariant w.if-row-gt0.false
+    ]
 
 pub returns : goal.returns
 returns c =
-    let e : c.loop-q.q ≡ c.args.m = omega arith in
-    rw e at c.loop-q.invariant.1
+    let e : c.loop-q.q ≡ c.args.c.now.m = omega arith in
+    rw e at c.loop-q.invariant

@@ -1,7 +1,6 @@
 -- `stretch::note_rows` meets its contract. The loop's invariant: the responses on the first q processors are noted.
-use Prim.Native.Nat.{◌+◌, ◌-◌, ◌≤◌}
+use Prim.Native.Nat.{◌+◌}
 use mathlib.Core.Path.{◌≡◌}
-use lib.ListN.{length}
 use Rattle.lists.specs.Tab.{tab}
 use Rattle.chain.specs.Unit.{push}
 use Rattle.jobs.specs.Numbers.{job_in}
@@ -10,7 +9,4 @@ use Rattle.stretch.proofs.note_rows.Given as goal
 
 abbrev pub invariant-loop-q : goal.invariant-loop-q
 invariant-loop-q l =
-    (l.q ≤ l.m) × (l.worst ≡ noted_to l.bounds (l.t + l.k) (tab 64 (λ i. push l.t l.k (job_in l.jobs i))) l.picked l.q l.initial.worst) × (length l.worst ≡ 192)
-
-abbrev pub decreases-loop-q : goal.decreases-loop-q
-decreases-loop-q l = l.m - l.q
+    l.worst ≡ noted_to l.c.bounds (l.t + l.k) (tab 64 (λ i. push l.t l.k (job_in l.jobs i))) l.picked l.q l.initial.worst

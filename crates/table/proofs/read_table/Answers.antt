@@ -1,42 +1,18 @@
--- `table::read_table` meets its contract. Behind the header's tests, the header is good.
-use Prim.Native.Nat.{ℕ}
-use mathlib.Core.Path.{◌∙◌, ap}
-use native.Mathlib.Omega.{arith}
-use borrow.Author.Rules.{rules}
-use borrow.Author.Tests.{lt-ltb, le-ltb}
-use Rattle.table.specs.Table.{refusal, header_number, reading_of}
-use Rattle.table.proofs.Laws.{header_good}
+-- `table::read_table` meets its contract.
+use mathlib.Core.Path.{sym}
+use Rattle.std.proofs.lemmas.Result.{err_from_is_err_and}
+use Rattle.table.proofs.Laws.{refused_reading, rows_read}
 use Rattle.table.proofs.read_table.Goals as goal
 
-pub returns-then-number-gt0 : goal.returns-then-number-gt0
-unfolding reading_of
-returns-then-number-gt0 c =
-    let h = c.header_number-number.ensures in
-    let bs = c.args.bytes.now in
-    rw (lt-ltb 0 (header_number bs) (omega arith)) (c.refuse.ensures ∙ ap (λ (x : ℕ). refusal x 0) h)
-
-pub field-n-requires : goal.field-n-requires
-field-n-requires c =
-    let g = header_good c.args.bytes.now (omega arith) in
-    search rules
-
-pub field-m-requires : goal.field-m-requires
-field-m-requires c =
-    let g = header_good c.args.bytes.now (omega arith) in
-    search rules
-
-pub field-npp-requires : goal.field-npp-requires
-field-npp-requires c =
-    let g = header_good c.args.bytes.now (omega arith) in
-    search rules
+pub returns-in_err-h : goal.returns-in_err-h
+returns-in_err-h c =
+    let p = err_from_is_err_and c.from_residual.result c.from_residual.ensures.1 in
+    rw (p.1, p.2, refused_reading c.args.bytes.now c.in_err-h.field-0.0 (sym c.in_err-h.ensures))
 
 pub read_rows-requires : goal.read_rows-requires
 read_rows-requires c =
-    let g = header_good c.args.bytes.now (omega arith) in
-    search rules
+    let r = rows_read c.args.bytes.now c.in_ok-h.h (sym c.in_ok-h.ensures) in
+    rw r.1 (r.0.rows.1, r.0.whole)
 
 pub returns : goal.returns
-unfolding reading_of
-returns c =
-    let bs = c.args.bytes.now in
-    rw (le-ltb 0 (header_number bs) (omega arith)) cc
+returns c = rw (rows_read c.args.bytes.now c.in_ok-h.h (sym c.in_ok-h.ensures)).2 c.read_rows.ensures
