@@ -4,7 +4,7 @@ use Rattle.std.proofs.lemmas.List.Edits.{sets}
 use Rattle.lists.specs.Tab.{tab, joined}
 use Rattle.lists.specs.First.{first}
 pub use Rattle.arrivals.specs.declared.Arrival.{Arrival}
-pub use Rattle.arrivals.specs.declared.Flat.{Flat}
+pub use Rattle.arrivals.specs.declared.flat.Flat.{Flat}
 
 -- what is read past the end of a list
 abbrev pub no_arrival : Arrival
@@ -50,7 +50,7 @@ arrivals_of flat count = tab count (arrival_in flat)
 
 -- the arrivals that are lent as numbers
 abbrev pub listed : Flat → List Arrival
-listed xs = arrivals_of xs.numbers xs.count
+listed xs = arrivals_of xs.numbers.now xs.count
 
 -- the first `count` arrivals of a list, written over the front of an array
 unfoldable pub flat_of : List Arrival → ℕ → List ℕ → List ℕ

@@ -1,11 +1,14 @@
 // Arrivals: their records, refusals 15 to 18, and which of them comes next.
 #![tactic(auto)]
 
-ghost use Rattle.std.specs.Prelude.{◌≡◌, ◌&&◌, ℕ, suc, ◌*◌, ◌<◌, ◌≤◌, min, cond, length, get_or, ltb, Some, None};
+ghost use Rattle.std.specs.Prelude.{◌≡◌, ◌&&◌, ℕ, suc, ◌*◌, ◌<◌, ◌≤◌, min, cond, length, get_or, ltb, leb, is_some, IfSome, Some, None};
 ghost use Rattle.std.proofs.lemmas.List.Edits.{sets};
 ghost use Rattle.arrivals.specs.Arrival.{arrival_at, lens_of, is_of, five, listed, flat_of};
 ghost use Rattle.arrivals.specs.Check.{disordered as disordered_lem, last_of, fault_number, number_by, number_at, heard_of};
 
+mod flat;
+
+pub use flat::Flat;
 use table::Table;
 
 // An arrival: its tick, its row, counted from 1, and the actual lengths of the three stages.
@@ -19,21 +22,13 @@ pub struct Arrival {
     pub len3: u32,
 }
 
-// The numbers of the first 4,096 arrivals, five for each, and how many arrivals there are.
-// Numbers, not records: the records are taken apart once, and all else reads numbers (a rule of the project, DECISIONS).
-#[derive(Drop)]
-pub struct Flat {
-    pub numbers: [u32; 20480],
-    pub count: usize,
-}
-
 // Why an arrival is refused: the paper's 15 to 18.
 #[derive(Clone, Copy, Debug, PartialEq, Eq)]
 pub enum Fault {
-    NoRow,
-    Disordered,
-    TooLong,
-    TooSoon,
+    NoRow = 15,
+    Disordered = 16,
+    TooLong = 17,
+    TooSoon = 18,
 }
 
 impl Fault {
@@ -42,12 +37,7 @@ impl Fault {
     pub fn number(self) -> u32
         ensures { result ≡ fault_number self }
     {
-        match self {
-            Fault::NoRow => 15,
-            Fault::Disordered => 16,
-            Fault::TooLong => 17,
-            Fault::TooSoon => 18,
-        }
+        self as u32
     }
 }
 
@@ -58,7 +48,7 @@ pub struct Unheard {
     pub position: u32,
 }
 
-// Writes an arrival's numbers at its place among those of 4,096.
+// Writes an arrival's numbers at its place among those of 4,096, one by one, as jobs::put_job does.
 fn put(a: Arrival, k: usize, flat: &mut [u32; 20480])
     requires { k < 4096 }
     ensures { flat.new ≡ sets flat.old (5 * k) (five a) }
@@ -80,11 +70,21 @@ pub fn taken_apart(list: &[Arrival], flat: &mut [u32; 20480])
     }
 }
 
-impl Flat {
+impl<'a> Flat<'a> {
+    // As many of the lent numbers as those of `count` arrivals; none of more than 4,096.
+    pub fn new(numbers: &'a [u32; 20480], count: usize) -> Option<Flat<'a>>
+        ensures { (is_some result ≡ leb count 4096) × IfSome result (λ xs. (xs.numbers ≡ numbers.entry) × (xs.count ≡ count)) }
+    {
+        if count > 4096 {
+            return None;
+        }
+        Some(Flat { numbers, count })
+    }
+
     // The arrival at place k.
     #[tactic(auto, using(crate::proofs::Numbers::arrival_at_lem), unfolding(crate::specs::Arrival::arrival_in))]
     fn arrival(&self, k: usize) -> Arrival
-        requires { (k < self.now.count) × (self.now.count ≤ 4096) }
+        requires { k < self.now.count }
         ensures { result ≡ arrival_at (listed self.now) k }
     {
         let at = 5 * k;
@@ -100,7 +100,7 @@ impl Flat {
 
 // Whether the arrival at place k does not stand behind the one before it.
 fn disordered(xs: &Flat, k: usize) -> bool
-    requires { (k < xs.now.count) × (xs.now.count ≤ 4096) }
+    requires { k < xs.now.count }
     ensures { result ≡ disordered_lem (listed xs.now) k }
 {
     if k == 0 {
@@ -117,9 +117,10 @@ fn disordered(xs: &Flat, k: usize) -> bool
     before.row >= here.row
 }
 
-// The first of 15 to 18 that the arrival at place k breaks; for each row, `last` is one more than the tick of its last arrival.
+// The first of 15 to 18 that the arrival at place k breaks; for each row, `last` is one more than the tick of its last arrival, and 0
+// if there is none: no Option, since the definition last_of is such a mark.
 fn check_at(xs: &Flat, k: usize, last: &[u32; 64], t: &Table) -> Result<(), Fault>
-    requires { (k < xs.now.count) × (xs.now.count ≤ 4096) × (t.now.n ≤ 64) × ((i : ℕ) → i < t.now.n → (get_or t.now.period i 0 ≤ 1000000) × (get_or last.now i 0 ≤ 1000000) × (get_or last.now i 0 ≡ last_of (listed xs.now) (suc i) k)) }
+    requires { (k < xs.now.count) × (t.now.n ≤ 64) × ((i : ℕ) → i < t.now.n → (get_or t.now.period i 0 ≤ 1000000) × (get_or last.now i 0 ≤ 1000000) × (get_or last.now i 0 ≡ last_of (listed xs.now) (suc i) k)) }
     ensures { number_by result ≡ number_at t.now.n t.now.period t.now.c1 t.now.a t.now.c2 (listed xs.now) k }
 {
     let x = xs.arrival(k);
@@ -143,7 +144,7 @@ fn check_at(xs: &Flat, k: usize, last: &[u32; 64], t: &Table) -> Result<(), Faul
 
 // The first bad one of the arrivals, and in it the lowest refusal.
 pub fn check_arrivals(xs: &Flat, t: &Table) -> Result<(), Unheard>
-    requires { (xs.now.count ≤ 4096) × (t.now.n ≤ 64) × ((i : ℕ) → i < t.now.n → get_or t.now.period i 0 ≤ 1000000) }
+    requires { (t.now.n ≤ 64) × ((i : ℕ) → i < t.now.n → get_or t.now.period i 0 ≤ 1000000) }
     ensures { result ≡ heard_of t.now.n t.now.period t.now.c1 t.now.a t.now.c2 (listed xs.now) }
 {
     let mut last = lists::blank::<64>(0);
@@ -160,7 +161,7 @@ pub fn check_arrivals(xs: &Flat, t: &Table) -> Result<(), Unheard>
 
 // What the arrival at place `next` brings, if it is the one of row i, counted from 0, at tick t.
 pub fn brought(xs: &Flat, next: usize, t: u32, i: usize) -> Option<[u32; 3]>
-    requires { (i < 64) × (xs.now.count ≤ 4096) }
+    requires { i < 64 }
     ensures { result ≡ cond (ltb next xs.now.count && is_of (listed xs.now) i t next) (Some (lens_of (arrival_at (listed xs.now) next))) None }
 {
     if next >= xs.count {

@@ -4,7 +4,7 @@
 ghost use Rattle.std.specs.Prelude.{◌≡◌, ◌+◌, ◌*◌, ◌<◌, ◌≤◌, ◌^◌, length};
 ghost use Rattle.bits.specs.Bits.{bits_value};
 
-// The value of the bits of count bytes, from byte at on. Each byte is loaded once.
+// The value of the bits of count bytes, from byte at on. Each byte is loaded once. No from_be_bytes: a word has 1 to 5 bytes.
 pub fn word(bytes: &[u8], at: usize, count: usize) -> u64
     requires { (at + count ≤ length bytes.now) × (count ≤ 8) }
     ensures { (result ≡ bits_value bytes.now (8 * at) (8 * count)) × (result < 2 ^ (8 * count)) }

@@ -1,5 +1,5 @@
 -- Laws of the demand, once over the list of terms: it grows with the time, and by one term at a time.
-use Prim.Native.Nat.{ℕ, zero, suc, ◌+◌, ◌-◌, ◌*◌, ◌/◌, ◌%◌, min, ◌≤◌, ◌<◌, zero-le}
+use Prim.Native.Nat.{ℕ, zero, suc, ◌+◌, ◌-◌, ◌*◌, ◌/◌, ◌≤◌, ◌<◌, zero-le}
 use mathlib.Core.Path.{◌≡◌, refl, ◌∙◌, ap₂}
 use mathlib.Core.Bool.{Bool, true, false, cond}
 use mathlib.Core.List.{List, [], ◌∷◌, ◌++◌}
@@ -7,7 +7,6 @@ use native.Mathlib.Omega.{arith}
 use native.Mathlib.Nat.{div-zero, div-mul-le_self, le-div_iff_mul-le, div-lt_iff_lt-mul, mul-le-mul_left, mul-le-mul_right, le_trans, zero-lt-suc, add-le-add, suc-mul}
 use lib.ListN.{length, get_or, take}
 use lib.Dec.{eqb}
-use Rattle.std.proofs.lemmas.Grind.{div_ceil_times}
 use Rattle.std.proofs.lemmas.List.{take_more}
 use Rattle.lists.specs.Total.{total}
 use Rattle.bounds.specs.Demand.{Term, ceil, demand, GoodTerms, no_term}
@@ -25,27 +24,11 @@ le-ceil t period c some h =
     let k : t + (period - 1) < suc c * period = (div-lt_iff_lt-mul some).0 (omega arith) in
     omega (arith, suc-mul c period)
 
--- rounded up
-pub ceil-is : (t period : ℕ) → 1 ≤ period → t / period + min 1 (t % period) ≡ ceil t period
-unfolding ceil
-ceil-is t period some =
-    let q : ℕ = t / period + min 1 (t % period) in
-    let (a, b) = div_ceil_times t period some in
-    let up : q ≤ (t + (period - 1)) / period = (le-div_iff_mul-le some).1 (omega arith) in
-    let down : (t + (period - 1)) / period < suc q = (div-lt_iff_lt-mul some).1 (omega (arith, suc-mul q period)) in
-    omega arith
-
 -- a term whose length is at most its period asks for less than t and one period more
 pub share_le : (t period len : ℕ) → len ≤ period → ceil t period * len ≤ t + (period - 1)
 unfolding ceil
 share_le t period len h =
     le_trans (mul-le-mul_left ((t + (period - 1)) / period) h) (div-mul-le_self (t + (period - 1)) period)
-
--- so with what is rounded up
-pub share_up : (t period len q : ℕ) → 1 ≤ period → len ≤ period → q ≡ t / period + min 1 (t % period) → (q * len ≡ ceil t period * len) × (q * len ≤ t + (period - 1))
-share_up t period len q some h e =
-    let x : q ≡ ceil t period = e ∙ ceil-is t period some in
-    rw x (refl, share_le t period len h)
 
 -- within one period a term is asked for once
 pub once : (t period len : ℕ) → 1 ≤ t → t ≤ period → ceil t period * len ≡ len

@@ -29,7 +29,8 @@ impl Term {
         if t <= self.period {
             return self.len;
         }
-        t.div_ceil(self.period) * self.len
+        // no div_ceil: it asks for the remainder beside the quotient, and planning took longer
+        (t + (self.period - 1)) / self.period * self.len
     }
 }
 
@@ -52,6 +53,7 @@ fn least(terms: &[Term], own: u32, limit: u32) -> Result<u32, Broke>
     ensures { result ≡ least_lem terms.now own limit }
 {
     let mut t = own;
+    // a while: it goes from one time to the next by what is asked for, and by no index
     while t <= limit {
         let asked = demand(terms, own, t);
         if asked == t {
@@ -73,7 +75,8 @@ fn bound_of(terms: &[Term], own: u32, blocking: u32, limit: u32) -> Result<u32, 
     least(terms, own + blocking, limit)
 }
 
-// The terms of the tasks on each processor: 64 places for each at its number, and how many of them are in use.
+// The terms of the tasks on each processor: 64 places for each at its number, and how many of them are in use. One flat array, out of
+// which a processor's lane is lent as a part (definition lane). That the terms are good is no ghost field: add takes any term.
 #[derive(Drop)]
 pub struct Lanes {
     pub terms: [Term; 1088],

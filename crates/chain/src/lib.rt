@@ -18,7 +18,8 @@ pub enum Place {
 }
 
 // A task's place, the tick of its last arrival and the lengths that it brought; one more than the tick in which the running
-// part first ran, 0 until then; how many jobs of the task have ended, and how many units it has run.
+// part first ran, 0 until then; how many jobs of the task have ended, and how many units it has run. The begun mark is a number and no
+// Option, as the definition mark has it; and GoodJob is no ghost field, since the definitions make jobs of any numbers.
 #[derive(Clone, Copy, Debug, PartialEq, Eq)]
 pub struct Job {
     pub place: Place,
@@ -29,7 +30,8 @@ pub struct Job {
     pub ran: u32,
 }
 
-// A job once the releases of a tick are in, and whether one of them came too early.
+// A job once the releases of a tick are in, and whether one of them came too early: no Result, since release_job promises the job in
+// both cases.
 #[derive(Clone, Copy, Debug, PartialEq, Eq)]
 pub struct Released {
     pub job: Job,

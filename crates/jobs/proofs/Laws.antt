@@ -1,14 +1,14 @@
 -- What the numbers of a job say of it.
-use Prim.Native.Nat.{ℕ, ◌+◌, ◌-◌, ◌*◌, ◌<◌, ◌≤◌}
+use Prim.Native.Nat.{ℕ, ◌+◌, ◌-◌, ◌*◌, ◌<◌}
 use mathlib.Core.Path.{◌≡◌, refl, sym, ◌∙◌, ap}
-use mathlib.Core.List.{List, [], ◌∷◌, ◌++◌, append_assoc}
+use mathlib.Core.List.{List, [], ◌∷◌}
 use mathlib.Core.Logic.{dite}
 use native.Mathlib.Omega.{arith}
 use native.Mathlib.Decide.{ℕ_discrete}
 use native.Mathlib.Nat.{add-zero, zero-add}
 use borrow.Author.Tests.{lt-ltb, le-ltb, ne_eqb}
-use lib.ListN.{get_or, length, take, drop, set, length-set}
-use lib.Seq.{sets, sets-eq, drop-drop, length-sets, ext_get_or, get_or-set_same, get_or-set_other}
+use lib.ListN.{get_or, length, set, length-set}
+use lib.Seq.{sets, length-sets, ext_get_or, get_or-set_same, get_or-set_other}
 use Rattle.lists.specs.Tab.{tab, blank}
 use Rattle.lists.proofs.Tab.{length-tab, get_or-tab, get_or-blank, length-blank}
 use Rattle.lists.proofs.Sets.{get_or-beside, get_or-within}
@@ -41,10 +41,6 @@ lens_in flat i = refl
 -- writing a job leaves the length as it was
 pub length_put : (flat : List ℕ) (i : ℕ) (x : Job) → length (sets flat (9 * i) (numbers_of x)) ≡ length flat
 length_put flat i x = length-sets flat (9 * i) (numbers_of x)
-
--- numbers copied over a part are stored there
-pub copied : (l ys : List ℕ) (at : ℕ) → at + length ys ≤ length l → take at l ++ (ys ++ drop (length ys) (drop at l)) ≡ sets l at ys
-copied l ys at h = sym (sets-eq ys l at h ∙ append_assoc (take at l) ys (drop (at + length ys) l) ∙ ap (λ (r : List ℕ). take at l ++ (ys ++ r)) (sym (drop-drop (length ys) at l)))
 
 -- the code and the number of a place stand for it
 place_back : (p : Place) → part_of p < 3 → place_in (code_of p) (number_of p) ≡ p

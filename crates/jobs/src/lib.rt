@@ -61,8 +61,14 @@ pub fn put_job(jobs: &mut [u32; 576], i: usize, x: Job)
 {
     let at = 9 * i;
     let (code, number) = numbers(x.place);
-    let row = [
-        code, number, x.arrived, x.lens[0], x.lens[1], x.lens[2], x.begun, x.ended, x.ran,
-    ];
-    jobs[at..at + 9].copy_from_slice(&row);
+    // no copy_from_slice of an array of nine: it stands on the stack first, and a run took longer
+    jobs[at] = code;
+    jobs[at + 1] = number;
+    jobs[at + 2] = x.arrived;
+    jobs[at + 3] = x.lens[0];
+    jobs[at + 4] = x.lens[1];
+    jobs[at + 5] = x.lens[2];
+    jobs[at + 6] = x.begun;
+    jobs[at + 7] = x.ended;
+    jobs[at + 8] = x.ran;
 }

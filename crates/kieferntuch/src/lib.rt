@@ -8,7 +8,7 @@ ghost use Rattle.run.specs.Answer.{run_answer, trace_after};
 ghost use Rattle.kieferntuch.specs.Answer.{answer_of, outcome_answer, answered, short, plan_answer};
 ghost use Rattle.kieferntuch.specs.Sheet.{written_at, bytes_of, sheet_after};
 
-use arrivals::{Arrival, Flat};
+use arrivals::Arrival;
 use plan::{NoPlan, Plan};
 use run::Ran;
 use table::{Refusal, Table};
@@ -114,10 +114,7 @@ pub fn kieferntuch_run(
 ) -> Ran
     ensures { (result ≡ run_answer (reading_of table.now) arrivals.now from ticks (length trace.old)) × (trace.new ≡ trace_after (reading_of table.now) arrivals.now from ticks trace.old) }
 {
-    let mut flat = Flat {
-        numbers: lists::blank(0),
-        count: arrivals.len(),
-    };
-    arrivals::taken_apart(arrivals, &mut flat.numbers);
-    run::run_flat(table, &flat, from, ticks, trace)
+    let mut numbers = lists::blank(0);
+    arrivals::taken_apart(arrivals, &mut numbers);
+    run::run_flat(table, &numbers, arrivals.len(), from, ticks, trace)
 }

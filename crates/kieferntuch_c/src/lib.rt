@@ -1,4 +1,5 @@
-// The exports of the static library: include/kieferntuch.h declares them, and each is the function of that name in kieferntuch.
+// The exports of the static library: include/kieferntuch.h declares them, and each is the function of that name in kieferntuch:
+// a twin of it, as C needs one.
 #![tactic(auto)]
 
 ghost use Rattle.std.specs.Prelude.{◌≡◌, length};

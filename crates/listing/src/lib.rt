@@ -10,7 +10,8 @@ ghost use Rattle.table.specs.Table.{reading_of};
 
 use plan::Plan;
 
-// Writes a part's bytes from place at on, and answers the place behind them.
+// Writes a part's bytes from place at on, and answers the place behind them. The place is handed on from writer to writer, as the
+// definition Wrote has it.
 fn put_bytes(out: &mut [u8], at: usize, bytes: &[u8]) -> usize
     requires { at + length bytes.now ≤ length out.old }
     ensures { Wrote out.old at out.new result bytes.now }
@@ -42,7 +43,7 @@ fn spell(x: u32, places: &mut [u8; 10]) -> &[u8]
 {
     let mut from = 10;
     let mut rest = x;
-    // a while: it goes by what is left of the number, and by no index
+    // a while: how many digits there are is known at its end
     while rest > 9 {
         from -= 1;
         places[from] = digit(rest % 10);
@@ -85,7 +86,7 @@ fn put_line(out: &mut [u8], at: usize, word: &[u8], numbers: &[u32]) -> usize
     put_byte(out, end, b'\n')
 }
 
-// Writes the refused line at the start.
+// Writes the refused line at the start: four numbers, as the definition refused_line has them.
 fn put_refused(out: &mut [u8], number: u32, names: u32, mark: u32, value: u32) -> usize
     requires { 52 ≤ length out.old }
     ensures { Wrote out.old 0 out.new result (refused_line number names mark value) × (result ≤ 52) }

@@ -14,7 +14,7 @@ pub fn blank<const N: usize>(x: u32) -> [u32; N]
     [x; N]
 }
 
-// The smaller of two numbers.
+// The smaller of two numbers: u32::min under a name of its own, since the theorem first_for_smaller speaks of it.
 pub fn smaller(x: u32, y: u32) -> u32
     ensures { result ≡ min x y }
 {

@@ -1,5 +1,5 @@
 -- What the loops over rows and processors do, one turn after the other.
-use Prim.Native.Nat.{ℕ, zero, suc, ◌+◌, ◌-◌, ◌*◌, ◌≤◌, ◌<◌}
+use Prim.Native.Nat.{ℕ, zero, suc, ◌+◌, ◌≤◌, ◌<◌}
 use mathlib.Core.Path.{◌≡◌, refl, ◌∙◌, ap}
 use mathlib.Core.List.{List, ◌++◌, append_assoc, append-nil}
 use native.Mathlib.Omega.{arith}
@@ -11,7 +11,7 @@ use Rattle.lists.specs.Tab.{tab}
 use Rattle.lists.proofs.Tab.{length-tab}
 use Rattle.chain.specs.declared.Job.{Job}
 use Rattle.chain.specs.Job.{job_at}
-use Rattle.machine.specs.Tick.{kind_of, byte_of}
+use Rattle.machine.specs.Tick.{byte_of}
 use Rattle.lists.specs.Total.{total}
 use Rattle.chain.specs.Owed.{owes}
 use Rattle.machine.specs.Counts.{Tally, tally_of}
@@ -24,18 +24,11 @@ pub tally_more : (js : List Job) (i : ℕ) (x : Job) (t : Tally) → x ≡ job_a
 unfolding tally_of total
 tally_more js i x t e f = rw (e, f, add-one i) refl
 
--- the byte of a processor that runs nothing, and of one that runs a row
+-- the byte of a processor that runs nothing
 pub byte_none : (js : List Job) (row : ℕ) → row ≤ 0 → 0 ≡ byte_of js row
 unfolding byte_of
 byte_none js zero h = refl
 byte_none js (suc i) h = absurd (omega arith)
-
-pub byte_runs : (js : List Job) (row : ℕ) → 0 < row → kind_of (job_at js (row - 1)).place * 64 + (row - 1) ≡ byte_of js row
-unfolding byte_of
-byte_runs js zero h = absurd (omega arith)
-byte_runs js (suc i) h =
-    let e : suc i - 1 ≡ i = omega arith in
-    rw e
 
 -- a list whose first k places are written anew
 module _ {A : Type 0} (f : ℕ → A) (old : List A) (k : ℕ) (now : List A) (e : now ≡ tab k f ++ drop k old) where

@@ -1,7 +1,7 @@
 // The machine: one tick after the other.
 #![tactic(auto)]
 
-ghost use Rattle.std.specs.Prelude.{◌≡◌, ℕ, suc, ◌*◌, ◌<◌, ◌≤◌, length, get_or, set, [], ◌∷◌, true, IfOk, IfErr};
+ghost use Rattle.std.specs.Prelude.{◌≡◌, ℕ, suc, ◌*◌, ◌<◌, ◌≤◌, length, get_or, set, [], ◌∷◌, true, false, IfOk, IfErr};
 ghost use Rattle.std.proofs.lemmas.List.Edits.{sets};
 ghost use Rattle.lists.specs.Tab.{tab};
 ghost use Rattle.table.specs.Good.{GoodTable};
@@ -21,7 +21,8 @@ use plan::Plan;
 use table::Table;
 
 // What the machine reads of a table and its plan: for each row the bounds and the processors of its three parts, its rank, and
-// the ceiling of its resource.
+// the ceiling of its resource. Flat columns, since the definitions threes and home and the answer's 192 responses are; and that they
+// are good is no ghost field, since the definition chart_of makes a chart of every table.
 #[derive(Clone, Copy)]
 pub struct Chart {
     pub n: usize,
@@ -73,7 +74,7 @@ impl State {
     }
 }
 
-// Writes three numbers at a row's places.
+// Writes three numbers at a row's places, one by one, as jobs::put_job does.
 fn put_three(out: &mut [u32; 192], i: usize, x: u32, y: u32, z: u32)
     requires { i < 64 }
     ensures { out.new ≡ sets out.old (3 * i) (x ∷ y ∷ z ∷ []) }
@@ -90,6 +91,7 @@ fn interleaved(x: &[u32; 64], y: &[u32; 64], z: &[u32; 64], n: usize) -> [u32; 1
     ensures { result ≡ threes x.now y.now z.now n }
 {
     let mut out = lists::blank(0);
+    // over i: a row is read in three columns
     for i in 0..n {
         put_three(&mut out, i, x[i], y[i], z[i]);
     }
@@ -113,7 +115,7 @@ pub fn chart_of(t: &Table, p: &Plan) -> Chart
     }
 }
 
-// The releases of row i in tick t, where an arrival brings these lengths, or none comes; whether one comes too early.
+// The releases of row i in tick t, where an arrival brings these lengths, or none comes; unless one comes too early.
 fn release_row(
     jobs: &mut [u32; 576],
     due: &mut [u32; 64],
@@ -121,18 +123,22 @@ fn release_row(
     i: usize,
     t: u32,
     came: Option<[u32; 3]>,
-) -> bool
+) -> Result<(), TooEarly>
     requires { (i < 64) × (t < 1000000) × GoodBounds bounds.now × GoodJob (job_in jobs.old i) × ((job_in jobs.old i).ended < 4294967294) }
-    ensures { (jobs_in jobs.new ≡ set (jobs_in jobs.old) i (released bounds.now i t (job_in jobs.old i) came))
-        × (due.new ≡ set due.old i (due_of bounds.now i (released bounds.now i t (job_in jobs.old i) came)))
-        × (result ≡ late bounds.now i t (job_in jobs.old i) came) }
+    ensures released { (jobs_in jobs.new ≡ set (jobs_in jobs.old) i (released bounds.now i t (job_in jobs.old i) came))
+        × (due.new ≡ set due.old i (due_of bounds.now i (released bounds.now i t (job_in jobs.old i) came))) }
+    ensures ok { IfOk result (λ _. late bounds.now i t (job_in jobs.old i) came ≡ false) }
+    ensures err { IfErr result (λ e. (e.row ≡ i) × (late bounds.now i t (job_in jobs.old i) came ≡ true)) }
 {
     let x = jobs::job_at(jobs, i);
     let r = chain::release_job(bounds, i, t, x, came);
     let job = r.job;
     jobs::put_job(jobs, i, job);
     due[i] = chain::due_of(bounds, i, job);
-    r.late
+    if r.late {
+        return Err(TooEarly { row: i });
+    }
+    Ok(())
 }
 
 // The first of the next releases of n rows.
@@ -140,16 +146,12 @@ pub fn soonest(due: &[u32; 64], n: usize) -> u32
     requires { n ≤ 64 }
     ensures { result ≡ soonest_of n due.now }
 {
-    let mut tick = NEVER;
-    for i in 0..n {
-        tick = due[i].min(tick);
-    }
-    tick
+    due[..n].iter().fold(NEVER, |least, tick| least.min(*tick))
 }
 
 // Whether no row has a release in tick t: none of n is due, and none of the arrivals from place `next` on comes.
 fn nothing_due(due: &[u32; 64], n: usize, t: u32, xs: &Flat, next: usize) -> bool
-    requires { (n ≤ 64) × (xs.now.count ≤ 4096) }
+    requires { n ≤ 64 }
     ensures { result ≡ true → ((i : ℕ) → i < n → t < get_or due.now i 0) × (next < xs.now.count → t < (arrival_at (listed xs.now) next).tick) }
 {
     if next < xs.count && xs.numbers[5 * next] <= t {
@@ -167,25 +169,25 @@ fn release_each(
     xs: &Flat,
     next: usize,
 ) -> Result<usize, TooEarly>
-    requires { (t < 1000000) × GoodBounds c.now.bounds × Held c.now.n c.now.bounds t jobs.old due.old × (xs.now.count ≤ 4096) × Coming c.now.n (listed xs.now) next t }
+    requires { (t < 1000000) × GoodBounds c.now.bounds × Held c.now.n c.now.bounds t jobs.old due.old × Coming c.now.n (listed xs.now) next t }
     ensures ok { IfOk result (λ at. (late_row c.now.n c.now.bounds (brings (listed xs.now)) t (jobs_in jobs.old) ≡ c.now.n)
         × (jobs_in jobs.new ≡ releases c.now.n c.now.bounds (brings (listed xs.now)) t (jobs_in jobs.old)) × Dues c.now.n c.now.bounds (jobs_in jobs.new) due.new × Coming c.now.n (listed xs.now) at (suc t)) }
     ensures err { IfErr result (λ e. (e.row ≡ late_row c.now.n c.now.bounds (brings (listed xs.now)) t (jobs_in jobs.old)) × (e.row < c.now.n)) }
 {
     let mut at = next;
+    // over i: a row is read in several columns
     for i in 0..c.n {
         let came = arrivals::brought(xs, at, t, i);
         if came.is_some() || due[i] <= t {
-            if release_row(jobs, due, &c.bounds, i, t, came) {
-                return Err(TooEarly { row: i });
-            }
+            release_row(jobs, due, &c.bounds, i, t, came)?;
             at += usize::from(came.is_some());
         }
     }
     Ok(at)
 }
 
-// The releases of a tick, where it has any; the place that the arrivals have come to.
+// The releases of a tick, where it has any; the place that the arrivals have come to. Of the state it is lent the two columns that it
+// writes.
 pub fn release_rows(
     jobs: &mut [u32; 576],
     due: &mut [u32; 64],
@@ -194,7 +196,7 @@ pub fn release_rows(
     xs: &Flat,
     next: usize,
 ) -> Result<usize, TooEarly>
-    requires { (t < 1000000) × GoodBounds c.now.bounds × Held c.now.n c.now.bounds t jobs.old due.old × (xs.now.count ≤ 4096) × Coming c.now.n (listed xs.now) next t }
+    requires { (t < 1000000) × GoodBounds c.now.bounds × Held c.now.n c.now.bounds t jobs.old due.old × Coming c.now.n (listed xs.now) next t }
     ensures ok { IfOk result (λ at. (late_row c.now.n c.now.bounds (brings (listed xs.now)) t (jobs_in jobs.old) ≡ c.now.n)
         × (jobs_in jobs.new ≡ releases c.now.n c.now.bounds (brings (listed xs.now)) t (jobs_in jobs.old)) × Dues c.now.n c.now.bounds (jobs_in jobs.new) due.new × Coming c.now.n (listed xs.now) at (suc t)) }
     ensures err { IfErr result (λ e. (e.row ≡ late_row c.now.n c.now.bounds (brings (listed xs.now)) t (jobs_in jobs.old)) × (e.row < c.now.n)) }
@@ -237,7 +239,7 @@ pub fn note(x: Job, i: usize, bounds: &[u32; 192], t: u32, worst: &mut [u32; 192
     worst[k] = worst[k].max(response);
 }
 
-// The kind of a place: 0 idle, 1 stage one, 2 section, 3 stage two.
+// The kind of a place, a number as the trace has it: 0 idle, 1 stage one, 2 section, 3 stage two.
 #[tactic(auto, unfolding(crate::specs::Tick::kind_of))]
 fn kind_of(p: Place) -> u32
     requires { part_of p < 3 }
@@ -254,11 +256,11 @@ fn byte_of(jobs: &[u32; 576], row: u32) -> u8
     requires { (row ≤ 64) × ((i : ℕ) → i < 64 → GoodJob (job_in jobs.now i)) }
     ensures { result ≡ byte_of_lem (jobs_in jobs.now) row }
 {
-    if row == 0 {
+    let Some(i) = row.checked_sub(1) else {
         return 0;
-    }
-    let x = jobs::job_at(jobs, row as usize - 1);
-    (kind_of(x.place) * 64 + (row - 1)) as u8
+    };
+    let x = jobs::job_at(jobs, i as usize);
+    (kind_of(x.place) * 64 + i) as u8
 }
 
 // The bytes of a tick, one for each processor.
@@ -281,6 +283,7 @@ pub fn count_up(jobs: &[u32; 576], n: usize) -> Tally
         run: 0,
         owed: 0,
     };
+    // over i: a row's job is no element, it is read out of the numbers
     for i in 0..n {
         let x = jobs::job_at(jobs, i);
         tally.jobs += u64::from(x.ended);

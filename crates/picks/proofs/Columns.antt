@@ -17,7 +17,7 @@ use Rattle.chain.specs.declared.Job.{Job}
 use Rattle.chain.specs.Job.{job_at}
 use Rattle.picks.specs.Pick.{gtb, home, section_on, stage_on, waits, holds, ready}
 use Rattle.picks.specs.Best.{best}
-use Rattle.picks.specs.Offer.{Best, Offer, against, with_key, lowest, no_offer, Offered}
+use Rattle.picks.specs.Offer.{Best, Offer, against, with_key, lowest, no_offer, nothing, Offered}
 use Rattle.picks.proofs.Bests.{best_skip, best_more, lowest_skip, lowest_more}
 
 -- a place that is not running is on no processor
@@ -100,9 +100,6 @@ module _ (homes ranks tops : List ℕ) (js : List Job) where
   Columns i offers = (length offers ≡ 17) × ((q : ℕ) → q < 17 → Offered homes ranks tops js i (get_or offers q no_offer) q)
 
   -- no row is in yet
-  abbrev nothing : Offer
-  nothing = record { first = None; last = None; stage = None; held = 64 }
-
   pub columns_none : Columns 0 (replicate 17 nothing)
   unfolding best with_key lowest
   columns_none = (length-replicate 17 nothing, λ q b. rw (get_or-replicate 17 q nothing no_offer b) (record { first_is = refl; last_is = refl; stage_is = refl; held_is = refl }))

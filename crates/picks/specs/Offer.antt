@@ -26,9 +26,13 @@ unfoldable pub lowest : (ℕ → Bool) → (ℕ → ℕ) → ℕ → ℕ
 lowest test key zero = 64
 lowest test key (suc i) = cond (test i) (min (key i) (lowest test key i)) (lowest test key i)
 
--- what stands for a processor that there is not
+-- what stands for a processor past the last one
 abbrev pub no_offer : Offer
 no_offer = record { first = None; last = None; stage = None; held = 0 }
+
+-- what a processor has to choose from before any row is looked at
+abbrev pub nothing : Offer
+nothing = record { first = None; last = None; stage = None; held = 64 }
 
 -- which of the two sections runs, the best not yet begun or the one begun last; a stage only where there is none
 unfoldable pub choice : Option Best → Option Best → Option Best → ℕ → ℕ

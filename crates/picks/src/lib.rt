@@ -1,11 +1,11 @@
 // What each processor runs in a tick, from one pass over the rows.
 #![tactic(auto)]
 
-ghost use Rattle.std.specs.Prelude.{◌≡◌, ℕ, ◌<◌, ◌≤◌, Bool, Option, get_or};
+ghost use Rattle.std.specs.Prelude.{◌≡◌, ℕ, ◌<◌, ◌≤◌, Bool, Option, get_or, replicate};
 ghost use Rattle.lists.specs.Tab.{tab};
 ghost use Rattle.jobs.specs.Numbers.{jobs_in};
 ghost use Rattle.picks.specs.Pick.{home, pick};
-ghost use Rattle.picks.specs.Offer.{no_offer, against as against_lem, choice, Offered};
+ghost use Rattle.picks.specs.Offer.{no_offer, nothing, against as against_lem, choice, Offered};
 ghost use Rattle.picks.specs.Good.{GoodHomes, GoodPlaces};
 
 use chain::Place;
@@ -49,24 +49,19 @@ fn home_of(homes: &[u32; 192], i: usize, part: u32) -> usize
     homes[3 * i + part as usize] as usize
 }
 
-// What each processor has to choose from, at the processor's number.
+// Looks the rows over for what each processor has to choose from, at the processor's number.
 fn look_over(
     jobs: &[u32; 576],
     homes: &[u32; 192],
     rank: &[u32; 64],
     top: &[u32; 64],
     n: usize,
-) -> [Offer; 17]
-    requires { GoodHomes homes.now rank.now n × GoodPlaces (jobs_in jobs.now) n }
-    ensures { (q : ℕ) → q < 17 → Offered homes.now rank.now top.now (jobs_in jobs.now) n (get_or result q no_offer) q }
+    offers: &mut [Offer; 17],
+)
+    requires { GoodHomes homes.now rank.now n × GoodPlaces (jobs_in jobs.now) n × (offers.old ≡ replicate 17 nothing) }
+    ensures { (q : ℕ) → q < 17 → Offered homes.now rank.now top.now (jobs_in jobs.now) n (get_or offers.new q no_offer) q }
 {
-    let none = Offer {
-        first: None,
-        last: None,
-        stage: None,
-        held: 64,
-    };
-    let mut offers = [none; 17];
+    // over i: a row is read in several columns
     for i in 0..n {
         let x = jobs::job_at(jobs, i);
         if let Place::Running { part, .. } = x.place {
@@ -82,7 +77,6 @@ fn look_over(
             }
         }
     }
-    offers
 }
 
 // The row that a processor runs, from what it has to choose from; 0 is none.
@@ -90,11 +84,7 @@ fn choose(o: &Offer) -> u32
     ensures { result ≡ choice o.now.first o.now.last o.now.stage o.now.held }
 {
     match (o.first, o.last) {
-        // no map_or: that it answers the row, or 0, was not proved
-        (None, None) => match o.stage {
-            None => 0,
-            Some(stage) => stage.row,
-        },
+        (None, None) => o.stage.map_or(0, |stage| stage.row),
         (None, Some(last)) => last.row,
         (Some(first), None) => first.row,
         (Some(first), Some(last)) => {
@@ -107,7 +97,8 @@ fn choose(o: &Offer) -> u32
     }
 }
 
-// The row that each processor runs, at the processor's number; 0 is none.
+// The row that each processor runs, at the processor's number; 0 is none, as the definition pick has it. Its columns come one by one,
+// since the chart that holds them is of machine, which is built on this crate.
 pub fn picks(
     jobs: &[u32; 576],
     homes: &[u32; 192],
@@ -118,8 +109,16 @@ pub fn picks(
     requires { GoodHomes homes.now rank.now n × GoodPlaces (jobs_in jobs.now) n }
     ensures { result ≡ tab 17 (pick homes.now rank.now top.now n (jobs_in jobs.now)) }
 {
-    let offers = look_over(jobs, homes, rank, top, n);
+    let none = Offer {
+        first: None,
+        last: None,
+        stage: None,
+        held: 64,
+    };
+    let mut offers = [none; 17];
+    look_over(jobs, homes, rank, top, n, &mut offers);
     let mut out = lists::blank::<17>(0);
+    // no offers.map: it moves the 17 offers, and a run took 8% longer
     for q in 0..17 {
         out[q] = choose(&offers[q]);
     }

@@ -83,11 +83,12 @@ module _ (t : Tasks) (s : ℕ) where
   unfoldable pub stages : Result Stages Nowhere
   stages = stages_of t.period t.c1 t.c2 t.work (bounds_in sections) s t.m t.n
 
-  -- "The first missing one ends the trial, mark 1." "The first that fits none ends the trial, mark 2."
+  -- how it ends: "The first missing one ends the trial, mark 1." "The first that fits none ends the trial, mark 2."
   abbrev pub ended : Result (List ℕ) NoSection → Result Stages Nowhere → Result Plan NoPlan
   ended (Err e) placed = failed (get_or t.row e.task 0) Section e.value
   ended (Ok bounds) (Err e) = failed (get_or t.row e.task 0) Stage e.value
   ended (Ok bounds) (Ok placed) = planned (plan_by t s serves bounds placed)
 
+  -- the trial
   unfoldable pub trial_of : Result Plan NoPlan
   trial_of = ended sections stages

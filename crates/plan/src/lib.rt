@@ -177,7 +177,7 @@ impl Tasks {
         }
     }
 
-    // What a trial hands back where this task lacks this.
+    // What a trial hands back that ends at this task, by its rank.
     fn lacks(&self, task: usize, mark: Mark, value: u32) -> NoPlan
         requires { task < 64 }
         ensures { result ≡ record { row = get_or self.now.row task 0; mark = mark; value = value } }

@@ -1,4 +1,5 @@
 pub mod Run
+pub mod Refused
 pub mod Answer
 pub mod State
 pub mod Brought

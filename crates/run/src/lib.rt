@@ -6,19 +6,21 @@ ghost use Rattle.std.proofs.lemmas.List.Edits.{sets};
 ghost use Rattle.lists.specs.Tab.{joined};
 ghost use Rattle.table.specs.Table.{reading_of};
 ghost use Rattle.table.specs.Good.{GoodTable};
-ghost use Rattle.arrivals.specs.Arrival.{listed};
-ghost use Rattle.arrivals.specs.Check.{number_heard, position_heard};
+ghost use Rattle.arrivals.specs.Arrival.{listed, arrivals_of};
 ghost use Rattle.machine.specs.Good.{GoodChart, Coming};
+ghost use Rattle.run.specs.declared.Refusal.{Refusal};
 ghost use Rattle.run.specs.Run.{refused as refused_lem, done as done_lem, log, stepped_of, shown_of};
+ghost use Rattle.run.specs.Refused.{refusal_answer, answered};
 ghost use Rattle.run.specs.Answer.{bad_window as bad_window_lem, call_number, call_names, run_answer, trace_after};
 ghost use Rattle.run.specs.State.{Stands, Falls};
 
-use arrivals::Flat;
+use arrivals::{Flat, Unheard};
 use machine::{Chart, State, Tally, TooEarly};
+use plan::NoPlan;
 use table::Table;
 
 // The number of the refusal, 0 if there is none, what it names, its mark, and its value; the worst response of each of the three stages
-// of each row; jobs ended, units run and units owed.
+// of each row; jobs ended, units run and units owed. No Result, since this is the C interface.
 #[repr(C)]
 #[derive(Drop)]
 pub struct Ran {
@@ -32,7 +34,56 @@ pub struct Ran {
     pub owed: u64,
 }
 
+// Why a run is refused: the paper's 1 to 9, 11, 12, 13, 14, 15 to 18, and 19 with the row, counted from 1.
+#[derive(Clone, Copy)]
+enum Refusal {
+    Table(table::Refusal),
+    NoPlan(NoPlan),
+    Window,
+    Trace,
+    Arrivals,
+    Unheard(Unheard),
+    TooEarly(u32),
+}
+
+impl From<table::Refusal> for Refusal {
+    ghost from_gives = { λ e r. r ≡ Refusal.Table e };
+
+    fn from(e: table::Refusal) -> Refusal {
+        Refusal::Table(e)
+    }
+}
+
+impl From<NoPlan> for Refusal {
+    ghost from_gives = { λ e r. r ≡ Refusal.NoPlan e };
+
+    fn from(e: NoPlan) -> Refusal {
+        Refusal::NoPlan(e)
+    }
+}
+
+impl From<Unheard> for Refusal {
+    ghost from_gives = { λ e r. r ≡ Refusal.Unheard e };
+
+    fn from(e: Unheard) -> Refusal {
+        Refusal::Unheard(e)
+    }
+}
+
+// No refusal, and nothing counted.
+const NOTHING: Ran = Ran {
+    number: 0,
+    names: 0,
+    mark: 0,
+    value: 0,
+    worst: [0; 192],
+    jobs: 0,
+    run: 0,
+    owed: 0,
+};
+
 // A refusal: all else is 0.
+#[tactic(auto, unfolding(lists::specs::Tab::blank))]
 fn refused(number: u32, names: u32, mark: u32, value: u32) -> Ran
     ensures { result ≡ refused_lem number names mark value }
 {
@@ -41,10 +92,25 @@ fn refused(number: u32, names: u32, mark: u32, value: u32) -> Ran
         names,
         mark,
         value,
-        worst: lists::blank(0),
-        jobs: 0,
-        run: 0,
-        owed: 0,
+        ..NOTHING
+    }
+}
+
+// What a refused run answers: the paper's number, what it names, its mark and its value.
+impl From<Refusal> for Ran {
+    ghost from_gives = { λ e r. r ≡ refusal_answer e };
+
+    #[tactic(auto, unfolding(crate::specs::Refused::refusal_answer))]
+    fn from(e: Refusal) -> Ran {
+        match e {
+            Refusal::Table(e) => refused(e.number(), e.names(), 0, 0),
+            Refusal::NoPlan(e) => refused(11, e.row, e.mark.number(), e.value),
+            Refusal::Window => refused(12, 0, 0, 0),
+            Refusal::Trace => refused(13, 0, 0, 0),
+            Refusal::Arrivals => refused(14, 0, 0, 0),
+            Refusal::Unheard(e) => refused(e.fault.number(), e.position, 0, 0),
+            Refusal::TooEarly(row) => refused(19, row, 0, 0),
+        }
     }
 }
 
@@ -53,14 +119,11 @@ fn done(worst: [u32; 192], tally: Tally) -> Ran
     ensures { result ≡ done_lem worst tally }
 {
     Ran {
-        number: 0,
-        names: 0,
-        mark: 0,
-        value: 0,
         worst,
         jobs: tally.jobs,
         run: tally.run,
         owed: tally.owed,
+        ..NOTHING
     }
 }
 
@@ -77,6 +140,11 @@ fn put_lanes(lane: &[u8], trace: &mut [u8], at: usize, ticks: usize)
     ensures { trace.new ≡ sets trace.old at (joined ticks (λ k. lane.now)) }
 {
     let m = lane.len();
+    // before the window there are up to a million ticks and no lane
+    if m == 0 {
+        return;
+    }
+    // over k: each lane is stored at its own place
     for k in 0..ticks {
         lists::store(trace, at + m * k, lane);
     }
@@ -93,7 +161,7 @@ fn play(
     lane: &mut [u8],
     trace: &mut [u8],
 ) -> Result<(), TooEarly>
-    requires { (from + ticks ≤ 1000000) × (xs.now.count ≤ 4096) × GoodChart c.now × (length lane.old ≤ 16) × (length lane.old * ticks ≤ length trace.old) × Stands c.now (listed xs.now) from s.old.jobs s.old.due s.old.worst s.old.next }
+    requires { (from + ticks ≤ 1000000) × GoodChart c.now × (length lane.old ≤ 16) × (length lane.old * ticks ≤ length trace.old) × Stands c.now (listed xs.now) from s.old.jobs s.old.due s.old.worst s.old.next }
     ensures ok { IfOk result (λ u. Stands c.now (listed xs.now) (from + ticks) s.new.jobs s.new.due s.new.worst s.new.next × (length lane.old ≡ c.now.m → trace.new ≡ log c.now (listed xs.now) from ticks ++ drop (c.now.m * ticks) trace.old)) }
     ensures err { IfErr result (λ e. Falls c.now (listed xs.now) (from + ticks) e.row) }
     ensures rest { length lane.old ≡ c.now.m → drop (c.now.m * ticks) trace.new ≡ drop (c.now.m * ticks) trace.old }
@@ -117,7 +185,7 @@ fn wind_and_play(
     s: &mut State,
     trace: &mut [u8],
 ) -> Result<(), TooEarly>
-    requires { (from + ticks ≤ 1000000) × (xs.now.count ≤ 4096) × GoodChart c.now × (c.now.m * ticks ≤ length trace.old) × Stands c.now (listed xs.now) 0 s.old.jobs s.old.due s.old.worst s.old.next }
+    requires { (from + ticks ≤ 1000000) × GoodChart c.now × (c.now.m * ticks ≤ length trace.old) × Stands c.now (listed xs.now) 0 s.old.jobs s.old.due s.old.worst s.old.next }
     ensures ok { IfOk result (λ u. Stands c.now (listed xs.now) (from + ticks) s.new.jobs s.new.due s.new.worst s.new.next × (trace.new ≡ log c.now (listed xs.now) from ticks ++ drop (c.now.m * ticks) trace.old)) }
     ensures err { IfErr result (λ e. Falls c.now (listed xs.now) (from + ticks) e.row) }
     ensures rest { drop (c.now.m * ticks) trace.new ≡ drop (c.now.m * ticks) trace.old }
@@ -128,74 +196,77 @@ fn wind_and_play(
 }
 
 // Steps the ticks of a run and writes those of its window.
-fn run_ticks(c: &Chart, xs: &Flat, from: usize, ticks: usize, trace: &mut [u8]) -> Ran
-    requires { (from + ticks ≤ 1000000) × (ticks ≤ 4096) × (xs.now.count ≤ 4096) × GoodChart c.now × (c.now.m * ticks ≤ length trace.old) × Coming c.now.n (listed xs.now) 0 0 }
-    ensures { (result ≡ stepped_of c.now (listed xs.now) from ticks) × (trace.new ≡ shown_of c.now (listed xs.now) from ticks trace.old) }
+fn run_ticks(
+    c: &Chart,
+    xs: &Flat,
+    from: usize,
+    ticks: usize,
+    trace: &mut [u8],
+) -> Result<Ran, Refusal>
+    requires { (from + ticks ≤ 1000000) × (ticks ≤ 4096) × GoodChart c.now × (c.now.m * ticks ≤ length trace.old) × Coming c.now.n (listed xs.now) 0 0 }
+    ensures { (answered result ≡ stepped_of c.now (listed xs.now) from ticks) × (trace.new ≡ shown_of c.now (listed xs.now) from ticks trace.old) }
 {
     let mut s = State::start();
-    match wind_and_play(c, xs, from, ticks, &mut s, trace) {
-        Ok(()) => done(s.worst, machine::count_up(&s.jobs, c.n)),
-        Err(e) => {
-            trace[..c.m * ticks].fill(0);
-            refused(19, e.row as u32 + 1, 0, 0)
-        }
+    // no ? for 19: the trace is wiped first, and that one more than the row fits is known here alone
+    if let Err(e) = wind_and_play(c, xs, from, ticks, &mut s, trace) {
+        trace[..c.m * ticks].fill(0);
+        return Err(Refusal::TooEarly(e.row as u32 + 1));
     }
+    Ok(done(s.worst, machine::count_up(&s.jobs, c.n)))
 }
 
-// A call that is refused: its number, 12 to 18, and the position that it names.
-#[derive(Clone, Copy)]
-struct NoCall {
-    number: u32,
-    names: u32,
-}
-
-// The refusal 12 to 18 of a call, if there is one.
-fn check_call(t: &Table, xs: &Flat, from: usize, ticks: usize, size: usize) -> Result<(), NoCall>
+// The arrivals of a call that is not refused by 12 to 18.
+fn check_call<'a>(
+    t: &Table,
+    numbers: &'a [u32; 20480],
+    count: usize,
+    from: usize,
+    ticks: usize,
+    size: usize,
+) -> Result<Flat<'a>, Refusal>
     requires { GoodTable t.now }
-    ensures ok { IfOk result (λ u. call_number t.now (listed xs.now) from ticks size ≡ 0) }
-    ensures err { IfErr result (λ e. (e.number ≡ call_number t.now (listed xs.now) from ticks size) × (e.names ≡ call_names t.now (listed xs.now) from ticks size) × (0 < e.number)) }
+    ensures ok { IfOk result (λ xs. (listed xs ≡ arrivals_of numbers.now count) × (call_number t.now (arrivals_of numbers.now count) from ticks size ≡ 0)) }
+    ensures err { IfErr result (λ e. (refusal_answer e ≡ refused_lem (call_number t.now (arrivals_of numbers.now count) from ticks size) (call_names t.now (arrivals_of numbers.now count) from ticks size) 0 0) × (0 < call_number t.now (arrivals_of numbers.now count) from ticks size)) }
 {
     if bad_window(from, ticks) {
-        return Err(NoCall {
-            number: 12,
-            names: 0,
-        });
+        return Err(Refusal::Window);
     }
     if size < t.m * ticks {
-        return Err(NoCall {
-            number: 13,
-            names: 0,
-        });
+        return Err(Refusal::Trace);
     }
-    if xs.count > 4096 {
-        return Err(NoCall {
-            number: 14,
-            names: 0,
-        });
-    }
-    match arrivals::check_arrivals(xs, t) {
-        Ok(()) => Ok(()),
-        Err(e) => Err(NoCall {
-            number: e.fault.number(),
-            names: e.position,
-        }),
-    }
+    let xs = Flat::new(numbers, count).ok_or(Refusal::Arrivals)?;
+    arrivals::check_arrivals(&xs, t)?;
+    Ok(xs)
 }
 
-// A run of a table from any bytes, with arrivals as numbers side by side, five for each.
-pub fn run_flat(table: &[u8], xs: &Flat, from: usize, ticks: usize, trace: &mut [u8]) -> Ran
-    ensures { (result ≡ run_answer (reading_of table.now) (listed xs.now) from ticks (length trace.old)) × (trace.new ≡ trace_after (reading_of table.now) (listed xs.now) from ticks trace.old) }
+// The answer of a run that is not refused; the trace is as run_flat says, refused or not.
+fn try_run(
+    table: &[u8],
+    numbers: &[u32; 20480],
+    count: usize,
+    from: usize,
+    ticks: usize,
+    trace: &mut [u8],
+) -> Result<Ran, Refusal>
+    ensures { (answered result ≡ run_answer (reading_of table.now) (arrivals_of numbers.now count) from ticks (length trace.old)) × (trace.new ≡ trace_after (reading_of table.now) (arrivals_of numbers.now count) from ticks trace.old) }
 {
-    let t = match table::read_table(table) {
-        Ok(t) => t,
-        Err(e) => return refused(e.number(), e.names(), 0, 0),
-    };
-    let p = match plan::plan_table(&t) {
-        Ok(p) => p,
-        Err(e) => return refused(11, e.row, e.mark.number(), e.value),
-    };
-    match check_call(&t, xs, from, ticks, trace.len()) {
-        Ok(()) => run_ticks(&machine::chart_of(&t, &p), xs, from, ticks, trace),
-        Err(e) => refused(e.number, e.names, 0, 0),
-    }
+    let t = table::read_table(table)?;
+    let p = plan::plan_table(&t)?;
+    let xs = check_call(&t, numbers, count, from, ticks, trace.len())?;
+    run_ticks(&machine::chart_of(&t, &p), &xs, from, ticks, trace)
+}
+
+// A run of a table from any bytes, with arrivals as numbers side by side, five for each. No struct for from and ticks: C gives them one
+// by one, and play goes by two other numbers. Numbers and count come apart: a count above 4,096 is refusal 14, behind 11 to 13.
+pub fn run_flat(
+    table: &[u8],
+    numbers: &[u32; 20480],
+    count: usize,
+    from: usize,
+    ticks: usize,
+    trace: &mut [u8],
+) -> Ran
+    ensures { (result ≡ run_answer (reading_of table.now) (arrivals_of numbers.now count) from ticks (length trace.old)) × (trace.new ≡ trace_after (reading_of table.now) (arrivals_of numbers.now count) from ticks trace.old) }
+{
+    try_run(table, numbers, count, from, ticks, trace).unwrap_or_else(Ran::from)
 }

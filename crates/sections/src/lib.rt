@@ -46,7 +46,7 @@ fn blocking(
 }
 
 // The bounds of the sections of n tasks, in rank order, up to the first that is missing.
-// The columns stay apart, as the table holds them: one array of structs would have to be gathered from them for each trial.
+// The columns stay apart, as the table holds them (fixed memory, and sections_of speaks of single columns).
 pub fn section_bounds(
     npp: bool,
     period: &[u32; 64],

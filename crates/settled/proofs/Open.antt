@@ -33,7 +33,7 @@ abbrev pub late_in : {A : Type 0} → ℕ → Result A TooEarly → ℕ
 late_in n (Ok a) = n
 late_in n (Err e) = e.row
 
--- one of two calls ends with a release that comes too early, in a row below n, and the other with none: not if both speak of the same row
+-- e names the row `late`, and that row is one of n: not if another call says that no release comes too early
 abbrev pub Apart : ℕ → ℕ → TooEarly → Type 0
 Apart late n e = (e.row ≡ late) × (e.row < n)
 

@@ -2,7 +2,10 @@
 use mir.Syntax.{w64}
 use mir.Val.{Fits}
 use denote.Param.{number}
-use mathlib.Core.Path.{refl, sym, ◌∙◌}
+use mathlib.Core.Path.{◌≡◌, refl, sym, ◌∙◌, ap, to_path_p}
+use mathlib.Core.Bool.{true≢false}
+use Rattle.std.specs.Prelude.{Some, None, ◌≤◌}
+use Rattle.std.specs.Coded.{le_prop}
 use Rattle.settled.specs.Settled.{Settles}
 use Rattle.lists.specs.contracts.blank as blank_contract
 use Rattle.lists.proofs.blank as blank_proof
@@ -62,6 +65,9 @@ use Rattle.sheet.specs.contracts.write_plan as write_plan_contract
 use Rattle.sheet.proofs.write_plan as write_plan_proof
 use Rattle.arrivals.specs.contracts.Fault.number as fault_number_contract
 use Rattle.arrivals.proofs.Fault.number as fault_number_proof
+use Rattle.arrivals.specs.declared.flat.Flat.{Flat}
+use Rattle.arrivals.specs.contracts.flat.Flat.new as flat_new_contract
+use Rattle.arrivals.proofs.flat.Flat.new as flat_new_proof
 use Rattle.arrivals.specs.contracts.check_arrivals as check_arrivals_contract
 use Rattle.arrivals.proofs.check_arrivals as check_arrivals_proof
 use Rattle.arrivals.specs.contracts.brought as brought_contract
@@ -195,6 +201,16 @@ write_plan_settled κs a r s h p q = (refl, λ i. ((p ∙ sym q) i, (tt, (tt, (t
 fault_number_settled : Settles fault_number_contract.ended fault_number_proof.Reads.Pre fault_number_proof.Reads.Post
 fault_number_settled κs a r s h p q = (p ∙ sym q, refl)
 
+-- two lists of one count, over the same lent numbers, are the same
+flat_same : (x y : Flat) → x.numbers ≡ y.numbers → x.count ≡ y.count → x ≡ y
+flat_same x y e f = λ i. record { numbers = e i; count = f i; few = to_path_p (λ i. f i ≤ 4096) {a = x.few} {b = y.few} (le_prop _ _) i }
+
+flat_new_settled : Settles flat_new_contract.ended flat_new_proof.Reads.Pre flat_new_proof.Reads.Post
+flat_new_settled κs a (Some x, v) (Some y, w) h p q = (ap Some (flat_same x y (p.1.0 ∙ sym q.1.0) (p.1.1 ∙ sym q.1.1)), refl)
+flat_new_settled κs a (Some x, v) (None, w) h p q = absurd (true≢false (p.0 ∙ sym q.0))
+flat_new_settled κs a (None, v) (Some y, w) h p q = absurd (true≢false (q.0 ∙ sym p.0))
+flat_new_settled κs a (None, v) (None, w) h p q = (refl, refl)
+
 check_arrivals_settled : Settles check_arrivals_contract.ended check_arrivals_proof.Reads.Pre check_arrivals_proof.Reads.Post
 check_arrivals_settled κs a r s h p q = (p ∙ sym q, refl)
 
@@ -250,7 +266,7 @@ count_up_settled : Settles count_up_contract.ended count_up_proof.Reads.Pre coun
 count_up_settled κs a r s h p q = (p ∙ sym q, refl)
 
 run_flat_settled : Settles run_flat_contract.ended run_flat_proof.Reads.Pre run_flat_proof.Reads.Post
-run_flat_settled κs a r s h p q = (p.0 ∙ sym q.0, λ i. (tt, (tt, (tt, (tt, ((p.1 ∙ sym q.1) i, tt))))))
+run_flat_settled κs a r s h p q = (p.0 ∙ sym q.0, λ i. (tt, (tt, (tt, (tt, (tt, ((p.1 ∙ sym q.1) i, tt)))))))
 
 write_listing_settled : Settles write_listing_contract.ended write_listing_proof.Reads.Pre write_listing_proof.Reads.Post
 write_listing_settled κs a r s h p q = (p.0.ends ∙ sym q.0.ends, λ i. (tt, ((p.0.bytes ∙ sym q.0.bytes) i, tt)))

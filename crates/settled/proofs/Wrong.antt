@@ -36,7 +36,7 @@ use Rattle.plan.specs.declared.Mark.TheVariants.{Stage}
 use Rattle.plan.specs.declared.Plan.{Plan}
 use Rattle.plan.proofs.Given.{planning}
 use Rattle.arrivals.specs.declared.Arrival.{Arrival}
-use Rattle.arrivals.specs.declared.Flat.{Flat}
+use Rattle.arrivals.specs.declared.flat.Flat.{Flat}
 use Rattle.arrivals.specs.Arrival.{is_of, arrival_in, arrivals_of, flat_of}
 use Rattle.chain.specs.declared.Place.TheVariants.{Running}
 use Rattle.chain.specs.declared.Job.{Job}
@@ -82,6 +82,8 @@ use Rattle.plan.proofs.Mark.number as mark_number_proof
 use Rattle.plan.specs.contracts.of_resource as of_resource_contract
 use Rattle.plan.proofs.of_resource as of_resource_proof
 use Rattle.arrivals.specs.contracts.taken_apart as taken_apart_contract
+use Rattle.arrivals.specs.contracts.flat.Flat.new as flat_new_contract
+use Rattle.arrivals.proofs.flat.Flat.new as flat_new_proof
 use Rattle.arrivals.specs.contracts.brought as brought_contract
 use Rattle.arrivals.proofs.brought as brought_proof
 use Rattle.chain.specs.contracts.due_of as due_of_contract
@@ -237,24 +239,24 @@ term = record { period = 10; len = 2 }
 abbrev first_term : (κs : Lfts (add_contract.ended).signature.lifetimes) → Args (add_contract.ended).signature κs
 first_term κs = (lent_mut 1 (record { terms = blank 1088 no_term; count = blank 17 0 }), (1, (term, tt)))
 
--- `add`: the term is stored, and the count of the lane stays
+-- `Lanes::add`: the term is stored, and the count of the lane stays
 lane_count_kept : (κs : _) → RuledOut add_contract.ended add_proof.Reads.Pre add_proof.Reads.Post κs
     (first_term κs) (tt, (record { terms = set (blank 1088 no_term) 64 term; count = blank 17 0 }, _))
 unfolding blank
 lane_count_kept κs = ((omega arith, omega arith), λ p. at 1 refl p.1)
 
--- `add`: the term is stored in the lane beside it
+-- `Lanes::add`: the term is stored in the lane beside it
 term_in_lane_beside : (κs : _) → RuledOut add_contract.ended add_proof.Reads.Pre add_proof.Reads.Post κs
     (first_term κs) (tt, (record { terms = set (blank 1088 no_term) 0 term; count = set (blank 17 0) 1 1 }, _))
 unfolding blank
 term_in_lane_beside κs = ((omega arith, omega arith), λ p. seen (λ r. (get_or r 64 no_term).period) refl p.0)
 
--- `new`: another number at each place
+-- `Lanes::new`: another number at each place
 lanes_of_another_number : (κs : _) (x : ℕ) → RuledOut new_contract.ended new_proof.Reads.Pre new_proof.Reads.Post κs tt (record { terms = blank 1088 (record { period = suc x; len = suc x }); count = blank 17 0 }, _)
 unfolding blank
 lanes_of_another_number κs x = (tt, λ p. seen (λ r. (get_or r 0 no_term).period) (eqb-suc-zero x) p.0)
 
--- `new`: the last place left out
+-- `Lanes::new`: the last place left out
 lanes_but_the_last : (κs : _) → RuledOut new_contract.ended new_proof.Reads.Pre new_proof.Reads.Post κs tt (record { terms = set (blank 1088 no_term) 1087 term; count = blank 17 0 }, _)
 unfolding blank
 lanes_but_the_last κs = (tt, λ p. seen (λ r. (get_or r 1087 no_term).period) refl p.0)
@@ -311,8 +313,24 @@ unfolding blank joined flat_of
 row_before_tick κs = (tt, at 0 refl)
 
 -- `count` of two arrivals as numbers: row 1 at tick 5 with 2, 3, 4, and row 2 at tick 6 with 7, 8, 9
-abbrev flat : ℕ → Flat
-flat count = record { numbers = array 20480 (5 ∷ 1 ∷ 2 ∷ 3 ∷ 4 ∷ 6 ∷ 2 ∷ 7 ∷ 8 ∷ 9 ∷ []); count = count }
+abbrev numbers : List ℕ
+numbers = array 20480 (5 ∷ 1 ∷ 2 ∷ 3 ∷ 4 ∷ 6 ∷ 2 ∷ 7 ∷ 8 ∷ 9 ∷ [])
+
+abbrev flat : (count : ℕ) → count ≤ 4096 → Flat
+flat count few = record { numbers = lent 2 numbers; count = count; few = few }
+
+-- `Flat::new`: a list of two arrivals is too long
+no_list_taken : (κs : _) → RuledOut flat_new_contract.ended flat_new_proof.Reads.Pre flat_new_proof.Reads.Post κs (lent 2 numbers, (2, tt)) (None, _)
+no_list_taken κs = (tt, λ p. seen (λ b. cond b 1 0) refl p.0)
+
+-- `Flat::new`: one arrival of the two is taken
+one_of_two_taken : (κs : _) → RuledOut flat_new_contract.ended flat_new_proof.Reads.Pre flat_new_proof.Reads.Post κs (lent 2 numbers, (2, tt)) (Some (flat 1 (omega arith)), _)
+one_of_two_taken κs = (tt, λ p. seen (λ k. k) refl p.1.1)
+
+-- whether something comes, as a number
+abbrev there : Option (List ℕ) → ℕ
+there None = 0
+there (Some lens) = 1
 
 -- the first length of what comes; 0 if nothing does
 abbrev length_of : Option (List ℕ) → ℕ
@@ -320,27 +338,27 @@ length_of None = 0
 length_of (Some lens) = get_or lens 0 0
 
 -- `brought`: an arrival behind the last one comes
-comes_behind_the_last : (κs : _) → RuledOut brought_contract.ended brought_proof.Reads.Pre brought_proof.Reads.Post κs
-    (lent 1 (flat 1), (1, (6, (1, tt)))) (Some (7 ∷ 8 ∷ 9 ∷ []), _)
-comes_behind_the_last κs = ((omega arith, omega arith), seen length_of refl)
+comes_behind_the_last : (κs : _) (lens : List ℕ) → RuledOut brought_contract.ended brought_proof.Reads.Pre brought_proof.Reads.Post κs
+    (lent 1 (flat 1 (omega arith)), (1, (6, (1, tt)))) (Some lens, _)
+comes_behind_the_last κs lens = (omega arith, seen there refl)
 
 -- `brought`: the row is compared, and the tick is not
-comes_at_any_tick : (κs : _) → RuledOut brought_contract.ended brought_proof.Reads.Pre brought_proof.Reads.Post κs
-    (lent 1 (flat 2), (0, (6, (0, tt)))) (Some (2 ∷ 3 ∷ 4 ∷ []), _)
+comes_at_any_tick : (κs : _) (lens : List ℕ) → RuledOut brought_contract.ended brought_proof.Reads.Pre brought_proof.Reads.Post κs
+    (lent 1 (flat 2 (omega arith)), (0, (6, (0, tt)))) (Some lens, _)
 unfolding tab is_of arrival_in arrivals_of
-comes_at_any_tick κs = ((omega arith, omega arith), seen length_of refl)
+comes_at_any_tick κs lens = (omega arith, seen there refl)
 
 -- `brought`: the lengths of the next arrival
 lens_of_the_next : (κs : _) → RuledOut brought_contract.ended brought_proof.Reads.Pre brought_proof.Reads.Post κs
-    (lent 1 (flat 2), (0, (5, (0, tt)))) (Some (7 ∷ 8 ∷ 9 ∷ []), _)
+    (lent 1 (flat 2 (omega arith)), (0, (5, (0, tt)))) (Some (7 ∷ 8 ∷ 9 ∷ []), _)
 unfolding tab is_of arrival_in arrivals_of
-lens_of_the_next κs = ((omega arith, omega arith), seen length_of refl)
+lens_of_the_next κs = (omega arith, seen length_of refl)
 
 -- `brought`: the lengths of the two stages change places
 lens_swapped : (κs : _) → RuledOut brought_contract.ended brought_proof.Reads.Pre brought_proof.Reads.Post κs
-    (lent 1 (flat 2), (0, (5, (0, tt)))) (Some (4 ∷ 3 ∷ 2 ∷ []), _)
+    (lent 1 (flat 2 (omega arith)), (0, (5, (0, tt)))) (Some (4 ∷ 3 ∷ 2 ∷ []), _)
 unfolding tab is_of arrival_in arrivals_of
-lens_swapped κs = ((omega arith, omega arith), seen length_of refl)
+lens_swapped κs = (omega arith, seen length_of refl)
 
 -- ---- chain
 

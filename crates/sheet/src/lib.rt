@@ -9,7 +9,7 @@ ghost use Rattle.sheet.specs.Sheet.{header_bytes, processor_fields, resource_byt
 
 use plan::Plan;
 
-// Writes a number in so many bytes from place at on, the most significant first.
+// Writes a number in so many bytes from place at on, the most significant first. No to_be_bytes: a word has 2, 4 or 5 bytes.
 fn put_word(part: &mut [u8], at: usize, count: usize, x: u64)
     requires { at + count ≤ length part.old }
     ensures { part.new ≡ sets part.old at (bytes_of count x) }
@@ -72,7 +72,8 @@ fn put_tasks(part: &mut [u8], n: usize, p: &Plan)
     }
 }
 
-// Writes a plan for n rows and m processors at the start of the part of a sheet that is lent.
+// Writes a plan for n rows and m processors at the start of the part of a sheet that is lent. That its numbers fit stays a clause, as
+// the definition plan_by makes plans of any numbers.
 pub fn write_plan(part: &mut [u8], n: usize, m: usize, p: &Plan)
     requires { (n ≤ 64) × (m ≤ 16) × (p.now.s < 16) × (12 + 9 * n ≤ length part.old) × ServesFit p.now.serves × TasksFit n p.now.processor p.now.d1 p.now.section p.now.d2 }
     ensures { part.new ≡ sets part.old 0 (plan_bytes n m p.now.s p.now.serves p.now.processor p.now.d1 p.now.section p.now.d2) }

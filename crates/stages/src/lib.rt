@@ -97,7 +97,7 @@ fn first_fit(lanes: &Lanes, s: usize, m: usize, need: Need) -> Result<Spot, Brok
 }
 
 // The places of n tasks, in rank order, up to the first that fits no processor.
-// The columns stay apart, as the table and the plan hold them: one array of structs would have to be gathered from them for each trial.
+// The columns stay apart, as the table and the plan hold them (fixed memory, and stages_of speaks of single columns).
 pub fn place_tasks(
     period: &[u32; 64],
     c1: &[u32; 64],

@@ -1,5 +1,5 @@
 -- The picked rows run together: each row is run at most once, and at the end all that a processor picks have run.
-use Prim.Native.Nat.{ℕ, zero, suc, ◌+◌, ◌*◌, ◌≤◌, ◌<◌}
+use Prim.Native.Nat.{ℕ, suc, ◌+◌, ◌*◌, ◌≤◌, ◌<◌}
 use mathlib.Core.Path.{◌≡◌, refl, sym, ◌∙◌, ap}
 use mathlib.Core.List.{List}
 use mathlib.Core.Bool.{Bool, true, false}
@@ -27,14 +27,6 @@ use Rattle.machine.specs.Tick.{serve_at, serve}
 use Rattle.machine.proofs.Keep.{serve_cases}
 use Rattle.chain.proofs.Places.{part_small}
 use Rattle.stretch.specs.Push.{Ready, Picks, push_row_at, push_row}
-
--- the row that a processor picks is one of 64, or none
-pub picked-le : (picked : List ℕ) (P : ℕ → ℕ → Type 0) → ((q i : ℕ) → q < 17 → get_or picked q 0 ≡ suc i → (i < 64) × P q i) → (q : ℕ) → q < 17 → get_or picked q 0 ≤ 64
-picked-le picked P all q l = go (get_or picked q 0) refl
-  where
-    go : (row : ℕ) → get_or picked q 0 ≡ row → row ≤ 64
-    go zero e = omega arith
-    go (suc i) e = omega (arith, (all q i l e).0)
 
 -- a job that has k ticks left of what it runs can run k units, and then one more
 module _ {t k : ℕ} {x y : Job} (r : Ready t k x) (e : y ≡ x) where

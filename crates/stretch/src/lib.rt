@@ -26,7 +26,6 @@ fn gap(from: u32, to: u32, most: u32) -> u32
 
 // How many ticks from t on bring no arrival, at most `most`.
 fn before_arrival(xs: &Flat, next: usize, t: u32, most: u32) -> u32
-    requires { xs.now.count ≤ 4096 }
     ensures { (result ≤ most) × (0 < result → next < xs.now.count → t + result ≤ (arrival_at (listed xs.now) next).tick) }
 {
     if next >= xs.count {
@@ -55,10 +54,8 @@ fn all_go_on(jobs: &[u32; 576], picked: &[u32; 17], c: &Chart, most: u32) -> u32
     ensures { (result ≤ most) × (1 < result → (q i : ℕ) → q < 17 → get_or picked.now q 0 ≡ suc i → Goes (get_or c.now.rank i 0) (get_or c.now.top i 0) result (job_in jobs.now i) (job_in jobs.now i).place) }
 {
     let mut ticks = most;
-    for q in 0..17 {
-        let row = picked[q] as usize;
-        if row > 0 {
-            let i = row - 1;
+    for row in picked {
+        if let Some(i) = (*row as usize).checked_sub(1) {
             let x = jobs::job_at(jobs, i);
             ticks = goes_on(x, c.rank[i], c.top[i], ticks);
         }
@@ -78,10 +75,8 @@ fn note_rows(
     requires { (c.now.m ≤ 16) × (t + k < 1000000) × GoodBounds c.now.bounds × ((q i : ℕ) → q < 17 → get_or picked.now q 0 ≡ suc i → (i < 64) × Ready t k (job_in jobs.now i)) }
     ensures { worst.new ≡ noted_to c.now.bounds (t + k) (tab 64 (λ i. push t k (job_in jobs.now i))) picked.now c.now.m worst.old }
 {
-    for q in 0..c.m {
-        let row = picked[q + 1] as usize;
-        if row > 0 {
-            let i = row - 1;
+    for row in &picked[1..=c.m] {
+        if let Some(i) = (*row as usize).checked_sub(1) {
             let x = jobs::job_at(jobs, i);
             let y = chain::push(x, t, k);
             machine::note(y, i, &c.bounds, t + k, worst);
@@ -124,17 +119,16 @@ fn run_rows(
         × ((i : ℕ) → i < 64 → get_or due.old i 0 ≡ due_of c.now.bounds i (job_in jobs.old i) → get_or due.new i 0 ≡ due_of c.now.bounds i (job_in jobs.new i))
         × (length jobs.new ≡ 576) × (length due.new ≡ 64) }
 {
-    for q in 0..17 {
-        let row = picked[q] as usize;
-        if row > 0 {
-            run_row(jobs, due, row - 1, picked, c, t, k);
+    for row in picked {
+        if let Some(i) = (*row as usize).checked_sub(1) {
+            run_row(jobs, due, i, picked, c, t, k);
         }
     }
 }
 
 // For how many ticks behind tick t, before tick e, nothing comes or falls due and every processor runs what it runs in tick t.
 fn ticks_behind(s: &State, picked: &[u32; 17], c: &Chart, t: u32, e: u32, xs: &Flat) -> u32
-    requires { (c.now.n ≤ 64) × (t < e) × (xs.now.count ≤ 4096) × ((q : ℕ) → get_or picked.now q 0 ≤ 64) }
+    requires { (c.now.n ≤ 64) × (t < e) × ((q : ℕ) → get_or picked.now q 0 ≤ 64) }
     ensures { (t + result < e)
         × (0 < result → s.now.next < xs.now.count → t + suc result ≤ (arrival_at (listed xs.now) s.now.next).tick)
         × (0 < result → (i : ℕ) → i < c.now.n → t + result < get_or s.now.due i 0)
@@ -156,7 +150,7 @@ pub fn stretch(
     xs: &Flat,
     lane: &mut [u8],
 ) -> Result<u32, TooEarly>
-    requires { (t < e) × (e ≤ 1000000) × GoodChart c.now × Held c.now.n c.now.bounds t s.old.jobs s.old.due × (xs.now.count ≤ 4096) × Coming c.now.n (listed xs.now) s.old.next t × (length lane.old ≤ 16) }
+    requires { (t < e) × (e ≤ 1000000) × GoodChart c.now × Held c.now.n c.now.bounds t s.old.jobs s.old.due × Coming c.now.n (listed xs.now) s.old.next t × (length lane.old ≤ 16) }
     ensures ok { IfOk result (λ ticks. (late_row c.now.n c.now.bounds (brings (listed xs.now)) t (jobs_in s.old.jobs) ≡ c.now.n)
         × Stretch c.now (listed xs.now) t (jobs_in s.old.jobs) s.old.worst ticks (jobs_in s.new.jobs) s.new.worst lane.new
         × (0 < ticks) × (t + ticks ≤ e) × Dues c.now.n c.now.bounds (jobs_in s.new.jobs) s.new.due × Coming c.now.n (listed xs.now) s.new.next (t + ticks)

@@ -5,7 +5,8 @@ ghost use Rattle.std.specs.Prelude.{◌≡◌, Bool, ℕ, ◌+◌, ◌*◌, ◌<
 ghost use Rattle.table.specs.Row.{outside as outside_lem, judged, row_of};
 ghost use Rattle.table.specs.Table.{number_of, names_of, header_of, row_bytes, blank_of, rows_reading, refusal_of as refusal_of_lem, reading_of};
 
-// A row's fields: period, length of stage one, of the section and of stage two, and the resource (0 is none).
+// A row's fields: period, length of stage one, of the section and of stage two, and the resource (0 is none, as in the
+// table's bytes).
 #[derive(Clone, Copy)]
 struct Task {
     period: u32,
@@ -18,10 +19,10 @@ struct Task {
 // Why a row is refused: the paper's 6 to 9.
 #[derive(Clone, Copy, Debug, PartialEq, Eq)]
 pub enum RowFault {
-    BadPeriod,
-    BadResource,
-    Disagree,
-    BadSum,
+    BadPeriod = 6,
+    BadResource = 7,
+    Disagree = 8,
+    BadSum = 9,
 }
 
 // Why a table is refused: the paper's 1 to 5 for its header, and for its first bad row, counted from 1, the row's fault.
@@ -47,10 +48,7 @@ impl Refusal {
             Refusal::BadProcessors => 3,
             Refusal::SpareBits => 4,
             Refusal::BadLength => 5,
-            Refusal::BadRow(RowFault::BadPeriod, _) => 6,
-            Refusal::BadRow(RowFault::BadResource, _) => 7,
-            Refusal::BadRow(RowFault::Disagree, _) => 8,
-            Refusal::BadRow(RowFault::BadSum, _) => 9,
+            Refusal::BadRow(fault, _) => fault as u32,
         }
     }
 
@@ -75,6 +73,8 @@ struct Header {
 }
 
 // The columns of a table, a place for each row; the rank of each row, from 0; the ceiling of each resource, at its number.
+// Columns and no array of rows: what comes above is lent single columns, and the definitions ranks_of and in_rank speak of them. That a
+// table is good is no ghost field, since the definitions make tables of any numbers.
 #[derive(Clone, Copy)]
 pub struct Table {
     pub n: usize,
@@ -221,7 +221,7 @@ pub fn read_table(bytes: &[u8]) -> Result<Table, Refusal>
     read_rows(bytes, h)
 }
 
-// The refusal of the first bad row behind a good header.
+// The refusal of the first bad row behind a good header: a loop beside that of read_rows, which keeps the rows.
 fn rows_refusal(bytes: &[u8], n: usize) -> Option<Refusal>
     requires { (n ≤ 64) × (length bytes.now ≡ 2 + 11 * n) }
     ensures { (m : ℕ) → (npp : Bool) → result ≡ refusal_of_lem (rows_reading bytes.now n m npp) }
@@ -234,7 +234,7 @@ fn rows_refusal(bytes: &[u8], n: usize) -> Option<Refusal>
     None
 }
 
-// The refusal of any bytes, for a caller who does not want the table.
+// The refusal of any bytes, for a caller who does not want the table. No twin of read_table: it keeps no column and ranks no row.
 pub fn refusal_of(bytes: &[u8]) -> Option<Refusal>
     ensures { result ≡ refusal_of_lem (reading_of bytes.now) }
 {

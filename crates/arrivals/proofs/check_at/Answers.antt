@@ -60,14 +60,14 @@ returns-then-x-t c =
 pub overflow_add-mark : goal.overflow_add-mark
 overflow_add-mark c =
     let a = c.args in
-    let m = kept a.t.now.n a.k c.arrival-x.result.row a.t.now.period a.last.now (listed a.xs.now) c.requires.3 (omega (arith, c.if-row-eq0.false)) c.if-row-t.false in
+    let m = kept a.t.now.n a.k c.arrival-x.result.row a.t.now.period a.last.now (listed a.xs.now) c.requires.2 (omega (arith, c.if-row-eq0.false)) c.if-row-t.false in
     omega (arith, m.0, m.1)
 
 pub returns-then-x-mark : goal.returns-then-x-mark
 unfolding fault_number
 returns-then-x-mark c =
     let a = c.args in
-    let m = kept a.t.now.n a.k c.arrival-x.result.row a.t.now.period a.last.now (listed a.xs.now) c.requires.3 (omega (arith, c.if-row-eq0.false)) c.if-row-t.false in
+    let m = kept a.t.now.n a.k c.arrival-x.result.row a.t.now.period a.last.now (listed a.xs.now) c.requires.2 (omega (arith, c.if-row-eq0.false)) c.if-row-t.false in
     sym
     (number_18 _ _ _ _ _ _ _ _ (sym c.arrival-x.ensures)
     (omega (arith, c.if-row-eq0.false), omega (arith, c.if-row-t.false)) (omega (arith, c.if-x-ge1000000.false), sym c.disordered.ensures ∙ c.if-disordered.false)
@@ -78,7 +78,7 @@ pub returns : goal.returns
 unfolding fault_number
 returns c =
     let a = c.args in
-    let m = kept a.t.now.n a.k c.arrival-x.result.row a.t.now.period a.last.now (listed a.xs.now) c.requires.3 (omega (arith, c.if-row-eq0.false)) c.if-row-t.false in
+    let m = kept a.t.now.n a.k c.arrival-x.result.row a.t.now.period a.last.now (listed a.xs.now) c.requires.2 (omega (arith, c.if-row-eq0.false)) c.if-row-t.false in
     sym
     (number_none _ _ _ _ _ _ _ _ (sym c.arrival-x.ensures)
     (record {

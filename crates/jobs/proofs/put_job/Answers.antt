@@ -1,15 +1,13 @@
 -- `jobs::put_job` meets its contract.
-use Prim.Native.Nat.{◌+◌, ◌*◌, ◌-◌}
-use mathlib.Core.Path.{◌≡◌, sym, ◌∙◌}
-use native.Mathlib.Omega.{arith}
+use Prim.Native.Nat.{◌*◌}
+use native.Mathlib.Nat.{add-suc}
+use native.Mathlib.Numerals.{add-one}
 use Rattle.jobs.specs.Numbers.{numbers_of}
-use Rattle.jobs.proofs.Laws.{copied}
 use Rattle.jobs.proofs.put_job.Goals as goal
 
 pub returns : goal.returns
 unfolding numbers_of
 returns c =
-    let a = c.args in
+    let at = add-suc (9 * c.args.i) in
     let n = c.numbers-code.ensures in
-    let e : 9 * a.i + 9 - 9 * a.i ≡ 9 = omega arith in
-    rw (e, c.copy_from_slice.ensures.after, n.0, n.1) (copied a.jobs.now (numbers_of a.x) (9 * a.i) (omega (arith, c.told-jobs)))
+    rw (n.0, n.1, at 7, at 6, at 5, at 4, at 3, at 2, at 1, add-one)

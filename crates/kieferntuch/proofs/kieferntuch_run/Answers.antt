@@ -7,4 +7,4 @@ use Rattle.kieferntuch.proofs.kieferntuch_run.Goals as goal
 pub returns : goal.returns
 returns c =
     let a = c.args in
-    from_flat (reading_of a.table.now) a.arrivals.now a.from a.ticks a.trace.now c.run_flat.result c.run_flat.new.trace c.blank.result c.taken_apart.new.flat (rw c.blank.ensures (length-blank 20480 0)) c.taken_apart.ensures c.run_flat.ensures
+    from_flat (reading_of a.table.now) a.arrivals.now a.from a.ticks a.trace.now c.run_flat.result c.run_flat.new.trace c.blank-numbers.result c.taken_apart.new.flat (rw c.blank-numbers.ensures (length-blank 20480 0)) c.taken_apart.ensures c.run_flat.ensures

@@ -14,4 +14,4 @@ unfolding arrival_in
 returns c e =
     let a = c.args in
     let l : a.t < c.soonest.result = ltb-true a.t c.soonest.result e in
-    (λ i h. omega (arith, c.soonest.ensures, soonest_le a.due.now a.n i h), λ h. rw (arrival_at_lem a.xs.now.numbers a.xs.now.count a.next h) (elim c.else-next-xs.branch [ else-next-xs-via-then-next-xs+else-xs-next w ↦ w.if-xs-next.false | else-next-xs-via-else-next-xs w ↦ absurd (omega (arith, w.if-next-xs.false)) ]))
+    (λ i h. omega (arith, c.soonest.ensures, soonest_le a.due.now a.n i h), λ h. rw (arrival_at_lem a.xs.now.numbers.now a.xs.now.count a.next h) (elim c.else-next-xs.branch [ else-next-xs-via-then-next-xs+else-xs-next w ↦ w.if-xs-next.false | else-next-xs-via-else-next-xs w ↦ absurd (omega (arith, w.if-next-xs.false)) ]))

@@ -1,15 +1,23 @@
 -- `picks::choose` meets its contract.
+use Prim.Native.Nat.{ℕ}
+use mathlib.Core.Path.{◌≡◌, refl}
+use borrow.Author.Rules.{rules}
 use borrow.Author.Tests.{lt-ltb, le-ltb}
-use Rattle.picks.specs.Offer.{choice}
+use Rattle.std.specs.Prelude.{Option, Some, None}
+use Rattle.picks.specs.Offer.{Best, choice}
 use Rattle.picks.proofs.choose.Goals as goal
 
-pub returns-in-None : goal.returns-in-None
+-- the stage's row, or none
+stage_row : (stage : Option Best) (held r : ℕ) → (stage ≡ None → r ≡ 0) → ((s : Best) → stage ≡ Some s → r ≡ s.row) → r ≡ choice None None stage held
 unfolding choice
-returns-in-None c = rw (c.in-None-None.is-0, c.in-None-None.is-1, c.in-None.is)
+stage_row None held r none one = none refl
+stage_row (Some s) held r none one = one s refl
 
-pub returns-in-Some : goal.returns-in-Some
-unfolding choice
-returns-in-Some c = rw (c.in-None-None.is-0, c.in-None-None.is-1, c.in-Some.is)
+pub returns-in-None-None : goal.returns-in-None-None
+returns-in-None-None c =
+    let o = c.args.o.now in
+    let e = c.map_or.ensures in
+    rw (c.in-None-None.is-0, c.in-None-None.is-1) (stage_row o.stage o.held c.map_or.result (λ n. search rules) (λ s n. search rules))
 
 pub returns-in-None-Some : goal.returns-in-None-Some
 unfolding choice

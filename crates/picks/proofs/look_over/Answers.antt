@@ -12,7 +12,7 @@ use Rattle.picks.proofs.look_over.Goals.{in-Running+then-part-ne1, in-Running+el
 use Rattle.picks.proofs.look_over.Goals as goal
 
 pub loop-i-init : goal.loop-i-init
-loop-i-init c = columns_none _ _ _ _
+loop-i-init c = rw c.requires.2 (columns_none _ _ _ _)
 
 pub home_of-q-requires : goal.home_of-q-requires
 home_of-q-requires c =

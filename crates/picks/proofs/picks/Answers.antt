@@ -18,4 +18,4 @@ pub returns : goal.returns
 returns c =
     let e : c.loop-q.q ≡ 17 = omega (arith, c.loop-q.auto.q-end) in
     (rw e at c.loop-q.invariant) ∙ filled_all 17 0 _
-    ∙ tab_same 17 _ _ (λ q b. pick_is c.args.homes.now c.args.rank.now c.args.top.now c.args.n (jobs_in c.args.jobs.now) q c.requires.0.ranked _ (c.look_over-offers.ensures q b))
+    ∙ tab_same 17 _ _ (λ q b. pick_is c.args.homes.now c.args.rank.now c.args.top.now c.args.n (jobs_in c.args.jobs.now) q c.requires.0.ranked _ (c.look_over.ensures q b))

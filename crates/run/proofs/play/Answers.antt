@@ -23,13 +23,13 @@ use Rattle.run.proofs.play.Goals as goal
 
 pub loop-k-init : goal.loop-k-init
 unfolding log joined
-loop-k-init c = (omega arith, rw (add-zero c.args.from) c.requires.5, λ w. refl)
+loop-k-init c = (omega arith, rw (add-zero c.args.from) c.requires.4, λ w. refl)
 
 pub stretch-requires : goal.stretch-requires
 stretch-requires c =
     let p = c.requires in
     let i = c.loop-k.invariant in
-    (omega (arith, c.loop-k-test.true), p.0, p.2, holds i.1 p.2 (omega arith), p.1, i.1.coming, omega (arith, c.loop-k.auto.lane, p.3))
+    (omega (arith, c.loop-k-test.true), p.0, p.1, holds i.1 p.1 (omega arith), i.1.coming, omega (arith, c.loop-k.auto.lane, p.2))
 
 -- the trace has room for r ticks more
 room : (m w k r e size had : ℕ) → w ≡ m → k + r ≤ e → m * e ≤ size → had ≡ size → w * k + w * r ≤ had
@@ -43,7 +43,7 @@ pub returns-in_err-more-clause-rest : goal.returns-in_err-more-clause-rest
 returns-in_err-more-clause-rest c w =
     let a = c.args in
     let l = c.loop-k in
-    rest_same l.trace a.trace.now _ a.c.now.m l.k a.ticks (l.invariant.2 w) (length-log a.c.now (listed a.xs.now) a.from l.k) l.invariant.0 (rw w at c.requires.4)
+    rest_same l.trace a.trace.now _ a.c.now.m l.k a.ticks (l.invariant.2 w) (length-log a.c.now (listed a.xs.now) a.from l.k) l.invariant.0 (rw w at c.requires.3)
 
 -- what an error says, another says of it
 if_err : (r : Result ⊤ TooEarly) {P Q : TooEarly → Type 0} → ((e : TooEarly) → P e → Q e) → IfErr r P → IfErr r Q
@@ -61,7 +61,7 @@ put_lanes-requires c =
     let a = c.args in
     let l = c.loop-k in
     let o = c.stretch in
-    room (length a.lane.now) _ l.k _ a.ticks (length a.trace.now) _ (o.auto.lane ∙ l.auto.lane) (omega (arith, c.in_ok-more.ensures.ok.3)) c.requires.4 l.auto.trace
+    room (length a.lane.now) _ l.k _ a.ticks (length a.trace.now) _ (o.auto.lane ∙ l.auto.lane) (omega (arith, c.in_ok-more.ensures.ok.3)) c.requires.3 l.auto.trace
 
 pub overflow_add-k : goal.overflow_add-k
 overflow_add-k c = omega (arith, c.in_ok-more.ensures.ok.3, c.requires.0)
@@ -95,8 +95,8 @@ returns c =
     record {
       ok = (
         rw q at l.invariant.1,
-        λ w. l.invariant.2 w ∙ ap (λ (k : ℕ). sets a.trace.now 0 (log a.c.now xs a.from k)) q ∙ front_is a.trace.now all size (length-log a.c.now xs a.from a.ticks) (rw w at c.requires.4),
+        λ w. l.invariant.2 w ∙ ap (λ (k : ℕ). sets a.trace.now 0 (log a.c.now xs a.from k)) q ∙ front_is a.trace.now all size (length-log a.c.now xs a.from a.ticks) (rw w at c.requires.3),
       );
       err = tt;
-      rest = λ w. rest_same l.trace a.trace.now _ a.c.now.m l.k a.ticks (l.invariant.2 w) (length-log a.c.now xs a.from l.k) l.invariant.0 (rw w at c.requires.4);
+      rest = λ w. rest_same l.trace a.trace.now _ a.c.now.m l.k a.ticks (l.invariant.2 w) (length-log a.c.now xs a.from l.k) l.invariant.0 (rw w at c.requires.3);
     }

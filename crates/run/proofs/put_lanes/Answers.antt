@@ -1,5 +1,7 @@
 -- `run::put_lanes` meets its contract: the lane is written k times, one behind the other.
-use Prim.Native.Nat.{ℕ, ◌+◌, ◌*◌, ◌≤◌}
+use Prim.Native.Nat.{ℕ, zero, suc, ◌+◌, ◌*◌, ◌≤◌}
+use mathlib.Core.List.{List, [], ◌++◌}
+use Rattle.std.proofs.lemmas.List.{nil_from_length}
 use mathlib.Core.Path.{◌≡◌, refl}
 use native.Mathlib.Omega.{arith}
 use lib.ListN.{length}
@@ -8,6 +10,15 @@ use Rattle.lists.proofs.Sets.{stored_length}
 use Rattle.lists.proofs.Joined.{joined_next}
 use Rattle.run.proofs.Front.{more_ticks}
 use Rattle.run.proofs.put_lanes.Goals as goal
+
+-- without a byte in the lane nothing is written
+joined_none : (n : ℕ) (xs : List ℕ) → length xs ≡ 0 → joined n (λ k. xs) ≡ []
+unfolding joined
+joined_none zero xs h = refl
+joined_none (suc n) xs h = rw (joined_none n xs h) (nil_from_length xs h)
+
+pub returns-then-m-eq0 : goal.returns-then-m-eq0
+returns-then-m-eq0 c = rw (joined_none c.args.ticks c.args.lane.now c.if-m-eq0.true) refl
 
 pub loop-k-init : goal.loop-k-init
 unfolding joined

@@ -11,6 +11,6 @@ use Rattle.stretch.proofs.all_go_on.Given as goal
 abbrev pub RowGoes : List ℕ → List ℕ → List ℕ → List ℕ → ℕ → ℕ → Type 0
 RowGoes jobs picked rank top k q = (i : ℕ) → get_or picked q 0 ≡ suc i → Goes (get_or rank i 0) (get_or top i 0) k (job_in jobs i) (job_in jobs i).place
 
-abbrev pub invariant-loop-q : goal.invariant-loop-q
-invariant-loop-q l =
-    (l.ticks ≤ l.most) × (1 < l.ticks → (p : ℕ) → p < l.q → RowGoes l.jobs l.picked l.c.rank l.c.top l.ticks p)
+abbrev pub invariant-loop-row : goal.invariant-loop-row
+invariant-loop-row l =
+    (l.ticks ≤ l.most) × (1 < l.ticks → (p : ℕ) → p < l.row-index → RowGoes l.jobs l.picked l.c.rank l.c.top l.ticks p)

@@ -14,4 +14,4 @@ tick_at flat count k s h l = rw (arrival_at_lem flat count k h) l
 pub returns : goal.returns
 returns c =
     let a = c.args in
-    (c.gap.ensures.0, λ h l. tick_at a.xs.now.numbers a.xs.now.count a.next (a.t + c.gap.result) l (c.gap.ensures.1 h))
+    (c.gap.ensures.0, λ h l. tick_at a.xs.now.numbers.now a.xs.now.count a.next (a.t + c.gap.result) l (c.gap.ensures.1 h))

@@ -5,7 +5,8 @@ use mathlib.Core.List.{List}
 use native.Mathlib.Omega.{arith}
 use native.Mathlib.Numerals.{add-one}
 use borrow.Author.Rules.{rules}
-use lib.ListN.{get_or}
+use lib.ListN.{length, take, drop, get_or, length-take, length-drop}
+use lib.Seq.{get_or-take, get_or-drop}
 use Rattle.lists.specs.Tab.{tab}
 use Rattle.lists.proofs.Tab.{get_or-tab}
 use Rattle.chain.specs.declared.Job.{Job}
@@ -13,71 +14,73 @@ use Rattle.chain.specs.Job.{no_job}
 use Rattle.chain.specs.Unit.{push}
 use Rattle.jobs.specs.Numbers.{job_in}
 use Rattle.machine.specs.Tick.{noted_at, noted, noted_to}
-use Rattle.stretch.specs.Push.{Ready}
-use Rattle.stretch.proofs.Running.{picked-le, push_fits, push_good}
-use Rattle.stretch.proofs.note_rows.Goals.{then-row-gt0, else-row-gt0}
+use Rattle.stretch.proofs.Running.{push_fits, push_good}
+use Rattle.stretch.proofs.note_rows.Goals.{in-Some, in_default}
 use Rattle.stretch.proofs.note_rows.Goals as goal
 
-module _ (bounds : List ℕ) (t : ℕ) (f : ℕ → Job) (picked old : List ℕ) (q : ℕ) (worst : List ℕ) (e : worst ≡ noted_to bounds t (tab 64 f) picked q old) where
-  abbrev row : ℕ
-  row = get_or picked (q + 1) 0
+-- the rows of m processors, and each of them
+rows-length : (picked : List ℕ) (m : ℕ) → m ≤ 16 → length picked ≡ 17 → length (take (m + 1 - 1) (drop 1 picked)) ≡ m
+rows-length picked m h l = omega (arith, length-take (m + 1 - 1) (drop 1 picked), length-drop 1 picked)
 
-  noted_next : noted bounds t (tab 64 f) row worst ≡ noted_to bounds t (tab 64 f) picked (q + 1) old
+row_at : (picked : List ℕ) (m q : ℕ) → q < m → get_or (take (m + 1 - 1) (drop 1 picked)) q 0 ≡ get_or picked (suc q) 0
+row_at picked m q h =
+    let n : 1 + q ≡ suc q = omega arith in
+    get_or-take (m + 1 - 1) (drop 1 picked) q 0 (omega arith) ∙ get_or-drop 1 picked q 0 ∙ ap (λ (k : ℕ). get_or picked k 0) n
+
+module _ (bounds : List ℕ) (t : ℕ) (f : ℕ → Job) (picked old : List ℕ) (q : ℕ) (worst : List ℕ) (e : worst ≡ noted_to bounds t (tab 64 f) picked q old) where
+  noted_next : noted bounds t (tab 64 f) (get_or picked (suc q) 0) worst ≡ noted_to bounds t (tab 64 f) picked (q + 1) old
   unfolding noted_to
   noted_next = rw (e, add-one q)
 
   -- one processor more, which runs nothing
-  noted_none : row ≤ 0 → worst ≡ noted_to bounds t (tab 64 f) picked (q + 1) old
+  noted_none : get_or picked (suc q) 0 ≡ 0 → worst ≡ noted_to bounds t (tab 64 f) picked (q + 1) old
   unfolding noted
-  noted_none n =
-      let z : 0 ≡ row = omega arith in
-      ap (λ (k : ℕ). noted bounds t (tab 64 f) k worst) z ∙ noted_next
+  noted_none z = ap (λ (k : ℕ). noted bounds t (tab 64 f) k worst) (sym z) ∙ noted_next
 
-  -- or which runs a row
-  noted_more : (x : Job) (next : List ℕ) → 0 < row → row ≤ 64 → x ≡ f (row - 1) → next ≡ noted_at bounds t (row - 1) x x.place worst → next ≡ noted_to bounds t (tab 64 f) picked (q + 1) old
+  -- or which runs row i
+  noted_more : (i : ℕ) (x : Job) (next : List ℕ) → get_or picked (suc q) 0 ≡ suc i → i < 64 → x ≡ f i → next ≡ noted_at bounds t i x x.place worst → next ≡ noted_to bounds t (tab 64 f) picked (q + 1) old
   unfolding noted
-  noted_more x next h l g n =
-      let z : suc (row - 1) ≡ row = omega arith in
-      let d : x ≡ get_or (tab 64 f) (row - 1) no_job = g ∙ sym (get_or-tab 64 f (row - 1) no_job (omega arith)) in
-      n ∙ ap (λ (y : Job). noted_at bounds t (row - 1) y y.place worst) d ∙ ap (λ (k : ℕ). noted bounds t (tab 64 f) k worst) z ∙ noted_next
+  noted_more i x next z l g n =
+      let d : x ≡ get_or (tab 64 f) i no_job = g ∙ sym (get_or-tab 64 f i no_job l) in
+      n ∙ ap (λ (y : Job). noted_at bounds t i y y.place worst) d ∙ ap (λ (k : ℕ). noted bounds t (tab 64 f) k worst) (sym z) ∙ noted_next
 
-pub loop-q-init : goal.loop-q-init
+pub loop-row-init : goal.loop-row-init
 unfolding noted_to
-loop-q-init c = search rules
-
-pub overflow_cast-row : goal.overflow_cast-row
-overflow_cast-row c =
-    omega (arith, picked-le c.args.picked.now (λ q i. Ready c.args.t c.args.k (job_in c.args.jobs.now i)) c.requires.3 (c.loop-q.q + 1) (omega arith))
+loop-row-init c = search rules
 
 pub job_at-x-requires : goal.job_at-x-requires
 job_at-x-requires c =
-    let q = c.loop-q.q + 1 in
-    (c.requires.3 q (get_or c.args.picked.now q 0 - 1) (omega arith) (omega arith)).0
+    let a = c.args in
+    let q = c.loop-row.row-index in
+    let n = rows-length a.picked.now a.c.now.m c.requires.0 c.told-picked in
+    (c.requires.3 (suc q) c.in-Some.i (omega arith) (omega (arith, row_at a.picked.now a.c.now.m q (omega arith)))).0
 
 pub push-y-requires : goal.push-y-requires
 push-y-requires c =
-    let q = c.loop-q.q + 1 in
-    push_fits (c.requires.3 q (get_or c.args.picked.now q 0 - 1) (omega arith) (omega arith)).1 c.job_at-x.ensures c.requires.1
+    let a = c.args in
+    let q = c.loop-row.row-index in
+    let n = rows-length a.picked.now a.c.now.m c.requires.0 c.told-picked in
+    push_fits (c.requires.3 (suc q) c.in-Some.i (omega arith) (omega (arith, row_at a.picked.now a.c.now.m q (omega arith)))).1 c.job_at-x.ensures c.requires.1
 
 pub note-requires : goal.note-requires
 note-requires c =
-    let l = c.loop-q in
-    let q = l.q + 1 in
-    let p = c.requires.3 q (get_or c.args.picked.now q 0 - 1) (omega arith) (omega arith) in
+    let a = c.args in
+    let q = c.loop-row.row-index in
+    let n = rows-length a.picked.now a.c.now.m c.requires.0 c.told-picked in
+    let p = c.requires.3 (suc q) c.in-Some.i (omega arith) (omega (arith, row_at a.picked.now a.c.now.m q (omega arith))) in
     (p.0, c.requires.1, c.requires.2, push_good p.1 c.job_at-x.ensures c.push-y.ensures)
 
-pub loop-q-preserved : goal.loop-q-preserved
-loop-q-preserved c =
+pub loop-row-preserved : goal.loop-row-preserved
+loop-row-preserved c =
     let a = c.args in
-    let l = c.loop-q in
+    let l = c.loop-row in
     let f : ℕ → Job = λ i. push a.t a.k (job_in a.jobs.now i) in
-    let few = picked-le a.picked.now (λ q i. Ready a.t a.k (job_in a.jobs.now i)) c.requires.3 (l.q + 1) (omega arith) in
-    elim c.if-row-gt0.branch [
-      | then-row-gt0 w ↦ w.worst-is ∙ noted_more a.c.now.bounds (a.t + a.k) f a.picked.now a.worst.now l.q l.worst l.invariant w.push-y.result _ w.if-row-gt0.true few (w.push-y.ensures ∙ ap (λ (x : Job). push a.t a.k x) w.job_at-x.ensures) w.note.ensures
-      | else-row-gt0 w ↦ w.worst-is ∙ noted_none a.c.now.bounds (a.t + a.k) f a.picked.now a.worst.now l.q l.worst l.invariant w.if-row-gt0.false
+    let n = rows-length a.picked.now a.c.now.m c.requires.0 c.told-picked in
+    let r = row_at a.picked.now a.c.now.m l.row-index (omega arith) in
+    elim c.match-checked_sub.branch [
+      | in-Some w ↦
+          let i = w.in-Some.i in
+          let z : get_or a.picked.now (suc l.row-index) 0 ≡ suc i = omega (arith, w.in-Some.ensures) in
+          w.worst-is ∙ noted_more a.c.now.bounds (a.t + a.k) f a.picked.now a.worst.now l.row-index l.worst l.invariant i w.push-y.result _ z (c.requires.3 (suc l.row-index) i (omega arith) z).0 (w.push-y.ensures ∙ ap (λ (x : Job). push a.t a.k x) w.job_at-x.ensures) w.note.ensures
+      | in_default w ↦ w.worst-is ∙ noted_none a.c.now.bounds (a.t + a.k) f a.picked.now a.worst.now l.row-index l.worst l.invariant (omega (arith, w.in_default.ensures))
     ]
-
-pub returns : goal.returns
-returns c =
-    let e : c.loop-q.q ≡ c.args.c.now.m = omega arith in
-    rw e at c.loop-q.invariant

@@ -3,7 +3,7 @@ use Prim.Native.Nat.{◌≤◌}
 use native.Mathlib.Omega.{arith}
 use native.Mathlib.Numerals.{add-one}
 use Rattle.arrivals.specs.Arrival.{listed, brings}
-use Rattle.arrivals.proofs.Numbers.{length_arrivals}
+use Rattle.arrivals.proofs.Numbers.{length_listed}
 use Rattle.jobs.specs.Numbers.{jobs_in}
 use Rattle.stretch.proofs.Together.{places_good, all_places_good, rows-le, Released, Rests, were_released, picks, ready, after, stretched, dues_after}
 use Rattle.stretch.proofs.stretch.Goals as goal
@@ -23,7 +23,7 @@ show-requires c =
     let flat = c.release_rows.new.jobs in
     let given = c.in_ok-next.ensures.ok in
     let h : a.t ≤ 1000000 = omega (arith, c.requires.0, c.requires.1) in
-    (c.requires.6, rows-le a.c.now (brings (listed a.xs.now)) a.t js flat c.requires.2 c.requires.3.good h given.1 c.picks-picked.result c.picks-picked.ensures, all_places_good a.c.now (brings (listed a.xs.now)) a.t js flat c.requires.2 c.requires.3.good h given.1)
+    (c.requires.5, rows-le a.c.now (brings (listed a.xs.now)) a.t js flat c.requires.2 c.requires.3.good h given.1 c.picks-picked.result c.picks-picked.ensures, all_places_good a.c.now (brings (listed a.xs.now)) a.t js flat c.requires.2 c.requires.3.good h given.1)
 
 pub ticks_behind-more-requires : goal.ticks_behind-more-requires
 ticks_behind-more-requires c =
@@ -31,7 +31,7 @@ ticks_behind-more-requires c =
     let js = jobs_in a.s.now.jobs in
     let flat = c.release_rows.new.jobs in
     let given = c.in_ok-next.ensures.ok in
-    (c.requires.2.homed.few, c.requires.0, c.requires.4, rows-le a.c.now (brings (listed a.xs.now)) a.t js flat c.requires.2 c.requires.3.good (omega (arith, c.requires.0, c.requires.1)) given.1 c.picks-picked.result c.picks-picked.ensures)
+    (c.requires.2.homed.few, c.requires.0, rows-le a.c.now (brings (listed a.xs.now)) a.t js flat c.requires.2 c.requires.3.good (omega (arith, c.requires.0, c.requires.1)) given.1 c.picks-picked.result c.picks-picked.ensures)
 
 pub note_rows-requires : goal.note_rows-requires
 note_rows-requires c =
@@ -48,7 +48,7 @@ note_rows-requires c =
     let behind = c.ticks_behind-more.ensures in
     let rel : Released ch xs a.t js flat dues rows next = were_released c.requires.2 c.requires.3.good given c.picks-picked.ensures in
     let rests : Rests ch xs a.t a.e flat dues rows next more =
-    record { short = behind.0; none_comes = λ b l. behind.1 b (rw (length_arrivals a.xs.now.numbers a.xs.now.count) at l); still = behind.2; go_on = behind.3 } in
+    record { short = behind.0; none_comes = λ b l. behind.1 b (rw (length_listed a.xs.now) at l); still = behind.2; go_on = behind.3 } in
     (c.requires.2.processors, omega (arith, behind.0, c.requires.1), c.requires.2.bounded, ready ch xs a.t a.e js flat dues rows next c.requires.1 rel more rests)
 
 pub run_rows-requires : goal.run_rows-requires
@@ -66,7 +66,7 @@ run_rows-requires c =
     let behind = c.ticks_behind-more.ensures in
     let rel : Released ch xs a.t js flat dues rows next = were_released c.requires.2 c.requires.3.good given c.picks-picked.ensures in
     let rests : Rests ch xs a.t a.e flat dues rows next more =
-    record { short = behind.0; none_comes = λ b l. behind.1 b (rw (length_arrivals a.xs.now.numbers a.xs.now.count) at l); still = behind.2; go_on = behind.3 } in
+    record { short = behind.0; none_comes = λ b l. behind.1 b (rw (length_listed a.xs.now) at l); still = behind.2; go_on = behind.3 } in
     (omega (arith, behind.0, c.requires.1), c.requires.2.bounded, c.requires.2.homed.on, picks ch xs a.t a.e js flat dues rows next c.requires.1 rel more rests)
 
 pub overflow_add-result : goal.overflow_add-result
@@ -87,7 +87,7 @@ returns c =
     let behind = c.ticks_behind-more.ensures in
     let rel : Released ch xs a.t js flat dues rows next = were_released c.requires.2 c.requires.3.good given c.picks-picked.ensures in
     let rests : Rests ch xs a.t a.e flat dues rows next more =
-    record { short = behind.0; none_comes = λ b l. behind.1 b (rw (length_arrivals a.xs.now.numbers a.xs.now.count) at l); still = behind.2; go_on = behind.3 } in
+    record { short = behind.0; none_comes = λ b l. behind.1 b (rw (length_listed a.xs.now) at l); still = behind.2; go_on = behind.3 } in
     let ran = c.run_rows in
     let noted = c.note_rows in
     let shown = c.show in
