@@ -1,22 +1,22 @@
 -- What each number says of an arrival, as facts, and of a list which arrival is refused.
 use Prim.Native.Nat.{ℕ, suc, ◌+◌, ◌-◌, ◌≤◌, ◌<◌}
 use Rattle.std.specs.Prelude.{Ok, Err}
-use mathlib.Core.Path.{◌≡◌, refl, sym, ◌∙◌}
+use mathlib.Core.Path.{◌≡◌, refl, sym, ◌∙◌, ap}
 use mathlib.Core.List.{List}
 use mathlib.Core.Logic.{dite}
 use mathlib.Core.Bool.{Bool, true, false, cond, ◌||◌}
 use native.Mathlib.Decide.{dec_lt}
 use native.Mathlib.Omega.{arith}
 use native.Mathlib.Numerals.{add-one}
-use borrow.Author.Tests.{lt-ltb, le-ltb, ltb-false, lt-leb, leb-false}
+use borrow.Author.Tests.{lt-ltb, le-ltb, ltb-false, lt-leb, leb-false, eqb-true, eqb-false}
 use lib.ListN.{length, get_or}
-use lib.Dec.{ltb, leb}
+use lib.Dec.{ltb, leb, eqb}
 use Rattle.lists.proofs.Tests.{neither}
 use Rattle.lists.proofs.First.{first_bad_lem, none_bad}
 use Rattle.table.specs.Row.{outside}
 use Rattle.table.proofs.Laws.{inside}
 use Rattle.arrivals.specs.Arrival.{Arrival, arrival_at}
-use Rattle.arrivals.specs.Check.{Fault, NoRow, Disordered, TooLong, TooSoon, disordered, last_of, less_than_t_ago, fault_number, fault_with, number_at, first_bad, heard_of}
+use Rattle.arrivals.specs.Check.{Fault, NoRow, Disordered, TooLong, TooSoon, disordered, last_of, less_than_t_ago, fault_number, fault_with, number_at, first_bad, heard_of, number_heard}
 
 -- 15 is not given
 abbrev pub RowFine : ℕ → Arrival → Type 0
@@ -155,14 +155,33 @@ fault_back Disordered = refl
 fault_back TooLong = refl
 fault_back TooSoon = refl
 
+-- the fault with a number has it
+pub fault_numbered : (x : ℕ) → 15 ≤ x → x ≤ 18 → fault_number (fault_with x) ≡ x
+unfolding fault_number fault_with
+fault_numbered x h l = go (eqb x 15) (eqb x 16) (eqb x 17) refl refl refl
+  where
+    go : (a b c : Bool) → eqb x 15 ≡ a → eqb x 16 ≡ b → eqb x 17 ≡ c → fault_number (cond a NoRow (cond b Disordered (cond c TooLong TooSoon))) ≡ x
+    go true b c p q r = sym (eqb-true x 15 p)
+    go false true c p q r = sym (eqb-true x 16 q)
+    go false false true p q r = sym (eqb-true x 17 r)
+    go false false false p q r = omega (arith, eqb-false x 15 p, eqb-false x 16 q, eqb-false x 17 r)
+
 module _ (n : ℕ) (periods c1s secs c2s : List ℕ) (xs : List Arrival) where
-  -- a bad arrival behind good ones is the refusal
-  pub heard_bad : (k : ℕ) (f : Fault) → k < length xs → ((j : ℕ) → j < k → number_at n periods c1s secs c2s xs j ≡ 0) → number_at n periods c1s secs c2s xs k ≡ fault_number f →
-      heard_of n periods c1s secs c2s xs ≡ Err (record { fault = f; position = k + 1 })
+  -- a bad arrival behind good ones is the refusal: its number, and its position
+  pub heard_bad : (k : ℕ) → k < length xs → ((j : ℕ) → j < k → number_at n periods c1s secs c2s xs j ≡ 0) → 0 < number_at n periods c1s secs c2s xs k →
+      (heard_of n periods c1s secs c2s xs ≡ Err (record { fault = fault_with (number_at n periods c1s secs c2s xs k); position = suc k }))
+      × (number_heard (heard_of n periods c1s secs c2s xs) ≡ number_at n periods c1s secs c2s xs k)
   unfolding heard_of first_bad
-  heard_bad k f l good bad =
-      let e : first_bad n periods c1s secs c2s xs ≡ k = first_bad_lem (length xs) (number_at n periods c1s secs c2s xs) k l good (omega (arith, fault_some f)) in
-      rw (e, lt-ltb k (length xs) l, bad, fault_back f, add-one)
+  heard_bad k l good bad =
+      let e : first_bad n periods c1s secs c2s xs ≡ k = first_bad_lem (length xs) (number_at n periods c1s secs c2s xs) k l good bad in
+      let r = number_range n periods c1s secs c2s xs k (arrival_at xs k) refl in
+      let h : heard_of n periods c1s secs c2s xs ≡ Err (record { fault = fault_with (number_at n periods c1s secs c2s xs k); position = suc k }) = rw (e, lt-ltb k (length xs) l) in
+      (h, ap number_heard h ∙ fault_numbered (number_at n periods c1s secs c2s xs k) (r.1 (omega arith)) r.0)
+
+  -- the same of its fault
+  pub heard_fault : (k : ℕ) (f : Fault) → k < length xs → ((j : ℕ) → j < k → number_at n periods c1s secs c2s xs j ≡ 0) → number_at n periods c1s secs c2s xs k ≡ fault_number f →
+      heard_of n periods c1s secs c2s xs ≡ Err (record { fault = f; position = k + 1 })
+  heard_fault k f l good bad = (heard_bad k l good (omega (arith, fault_some f))).0 ∙ rw (bad, fault_back f, add-one)
 
   -- good arrivals have none
   pub heard_none : ((k : ℕ) → k < length xs → number_at n periods c1s secs c2s xs k ≡ 0) → heard_of n periods c1s secs c2s xs ≡ Ok tt

@@ -1,7 +1,7 @@
 -- A list of arrivals without refusal is good: in order, within the table's limits, and each row's a period apart.
 use Prim.Native.Nat.{ℕ, zero, suc, ◌+◌, ◌-◌, ◌*◌, ◌≤◌, ◌<◌}
 use Rattle.std.specs.Prelude.{Result, Ok, Err, ⊤}
-use mathlib.Core.Path.{◌≡◌, refl, sym}
+use mathlib.Core.Path.{◌≡◌, refl}
 use mathlib.Core.List.{List}
 use mathlib.Core.Logic.{◌⊎◌, inl, inr, ⊎_elim, dite}
 use mathlib.Core.Bool.{Bool, true, false, false≢true, cond, ◌&&◌, ◌||◌}
@@ -12,9 +12,9 @@ use lib.ListN.{length, get_or}
 use lib.Dec.{ltb, eqb}
 use Rattle.lists.proofs.First.{first_yes, good_before}
 use Rattle.arrivals.specs.Arrival.{Arrival, arrival_at}
-use Rattle.arrivals.specs.Check.{NoRow, Disordered, TooLong, TooSoon, Unheard, disordered, last_of, fault_number, fault_with, number_at, first_bad, heard_of, number_heard}
+use Rattle.arrivals.specs.Check.{Unheard, disordered, last_of, fault_with, number_at, first_bad, heard_of, number_heard}
 use Rattle.arrivals.specs.Seek.{key_of, GoodArrivals}
-use Rattle.arrivals.proofs.Fine.{Fine, fine, number_range}
+use Rattle.arrivals.proofs.Fine.{Fine, fine, number_range, fault_numbered}
 
 -- what rises from each place to the next rises from any place to a later one
 pub rises : (f : ℕ → ℕ) (n : ℕ) → ((k : ℕ) → suc k < n → f k < f (suc k)) → (j k : ℕ) → j < k → k < n → f j < f k
@@ -34,17 +34,6 @@ behind_key a b r s h u v = go (ltb a b) (eqb a b) refl refl h
     go true y e f h = omega (arith, ltb-true a b e)
     go false true e f h = omega (arith, eqb-true a b f, ltb-true r s h)
     go false false e f h = absurd (false≢true h)
-
--- the fault with a number has it
-pub fault_numbered : (x : ℕ) → 15 ≤ x → x ≤ 18 → fault_number (fault_with x) ≡ x
-unfolding fault_number fault_with
-fault_numbered x h l = go (eqb x 15) (eqb x 16) (eqb x 17) refl refl refl
-  where
-    go : (a b c : Bool) → eqb x 15 ≡ a → eqb x 16 ≡ b → eqb x 17 ≡ c → fault_number (cond a NoRow (cond b Disordered (cond c TooLong TooSoon))) ≡ x
-    go true b c p q r = sym (eqb-true x 15 p)
-    go false true c p q r = sym (eqb-true x 16 q)
-    go false false true p q r = sym (eqb-true x 17 r)
-    go false false false p q r = omega (arith, eqb-false x 15 p, eqb-false x 16 q, eqb-false x 17 r)
 
 module _ (n : ℕ) (periods c1s secs c2s : List ℕ) (xs : List Arrival) where
   -- the number of the arrival at place k, and the place of the first bad one

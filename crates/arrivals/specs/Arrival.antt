@@ -1,5 +1,7 @@
 -- "arrivals, lent as a run of records (tick, row, three lengths)"
-use Rattle.std.specs.Prelude.{ℕ, suc, ◌+◌, ◌*◌, Bool, cond, ◌&&◌, List, [], ◌∷◌, get_or, length, ltb, eqb, Option, Some, None}
+use denote.Bor.{Bor}
+use borrow.Author.Tests.{leb-true}
+use Rattle.std.specs.Prelude.{◌≡◌, ℕ, suc, ◌+◌, ◌*◌, Bool, true, false, refl, cond, ◌&&◌, List, [], ◌∷◌, get_or, length, ltb, leb, eqb, Option, Some, None}
 use Rattle.std.proofs.lemmas.List.Edits.{sets}
 use Rattle.lists.specs.Tab.{tab, joined}
 use Rattle.lists.specs.First.{first}
@@ -51,6 +53,14 @@ arrivals_of flat count = tab count (arrival_in flat)
 -- the arrivals that are lent as numbers
 abbrev pub listed : Flat → List Arrival
 listed xs = arrivals_of xs.numbers.now xs.count
+
+-- the numbers of `count` arrivals, lent as such a list: these numbers, and none of more than 4,096
+unfoldable pub flat_by : (numbers : Bor (List ℕ)) (count : ℕ) (b : Bool) → leb count 4096 ≡ b → Option Flat
+flat_by numbers count true h = Some (record { numbers = numbers; count = count; few = leb-true count 4096 h })
+flat_by numbers count false h = None
+
+unfoldable pub flat_in : Bor (List ℕ) → ℕ → Option Flat
+flat_in numbers count = flat_by numbers count (leb count 4096) refl
 
 -- the first `count` arrivals of a list, written over the front of an array
 unfoldable pub flat_of : List Arrival → ℕ → List ℕ → List ℕ

@@ -3,7 +3,7 @@
 
 ghost use Rattle.std.specs.Prelude.{◌≡◌, ◌&&◌, ℕ, suc, ◌*◌, ◌<◌, ◌≤◌, min, cond, length, get_or, ltb, leb, is_some, IfSome, Some, None};
 ghost use Rattle.std.proofs.lemmas.List.Edits.{sets};
-ghost use Rattle.arrivals.specs.Arrival.{arrival_at, lens_of, is_of, five, listed, flat_of};
+ghost use Rattle.arrivals.specs.Arrival.{arrival_at, lens_of, is_of, five, listed, flat_in, flat_of};
 ghost use Rattle.arrivals.specs.Check.{disordered as disordered_lem, last_of, fault_number, number_by, number_at, heard_of};
 
 mod flat;
@@ -73,7 +73,7 @@ pub fn taken_apart(list: &[Arrival], flat: &mut [u32; 20480])
 impl<'a> Flat<'a> {
     // As many of the lent numbers as those of `count` arrivals; none of more than 4,096.
     pub fn new(numbers: &'a [u32; 20480], count: usize) -> Option<Flat<'a>>
-        ensures { (is_some result ≡ leb count 4096) × IfSome result (λ xs. (xs.numbers ≡ numbers.entry) × (xs.count ≡ count)) }
+        ensures { (is_some result ≡ leb count 4096) × IfSome result (λ xs. (xs.numbers ≡ numbers.entry) × (xs.count ≡ count)) × (result ≡ flat_in numbers.entry count) }
     {
         if count > 4096 {
             return None;
@@ -83,7 +83,7 @@ impl<'a> Flat<'a> {
 
     // The arrival at place k.
     #[tactic(auto, using(crate::proofs::Numbers::arrival_at_lem), unfolding(crate::specs::Arrival::arrival_in))]
-    fn arrival(&self, k: usize) -> Arrival
+    pub fn arrival(&self, k: usize) -> Arrival
         requires { k < self.now.count }
         ensures { result ≡ arrival_at (listed self.now) k }
     {
@@ -167,9 +167,11 @@ pub fn brought(xs: &Flat, next: usize, t: u32, i: usize) -> Option<[u32; 3]>
     if next >= xs.count {
         return None;
     }
-    let x = xs.arrival(next);
-    if x.tick != t || x.row as usize != i + 1 {
+    // no arrival(next): this is asked of each row of a tick with a release, mostly the tick or the row is another, and a run took a
+    // quarter more where all five numbers were read first
+    let at = 5 * next;
+    if xs.numbers[at] != t || xs.numbers[at + 1] as usize != i + 1 {
         return None;
     }
-    Some([x.len1, x.len2, x.len3])
+    Some([xs.numbers[at + 2], xs.numbers[at + 3], xs.numbers[at + 4]])
 }

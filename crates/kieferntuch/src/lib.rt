@@ -59,6 +59,7 @@ impl From<NoPlan> for Answer {
 }
 
 // Reads a table from any bytes.
+#[tactic(auto, using(crate::proofs::Planned::no_refusal, crate::proofs::Planned::read_refused, crate::proofs::Planned::read_accepted))]
 pub fn kieferntuch_read(table: &[u8]) -> Answer
     ensures { result ≡ answer_of (reading_of table.now) }
 {

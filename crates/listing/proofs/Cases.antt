@@ -7,6 +7,7 @@ use mathlib.Core.List.{List, [], ◌∷◌, ◌++◌}
 use Rattle.lists.specs.Tab.{tab, joined}
 use Rattle.table.specs.Table.{number_of, names_of, reading_of}
 use Rattle.table.proofs.Given.{PCP, P, Q, written, hex}
+use Rattle.plan.specs.Trial.{number_of as number_of_plan, names_of as names_of_plan, mark_of, value_of}
 use Rattle.plan.proofs.Given.{planning}
 use Rattle.listing.specs.Text.{spelled, decimal, spaced, line}
 use Rattle.listing.specs.Listing.{refused_line, plan_line, resource_line, resource_lines, task_line, plan_text, outcome_text, listing_of}
@@ -49,5 +50,5 @@ cases =
 
 -- the definitions compute all of them
 every_case : All cases
-unfolding cases planning number_of names_of joined spelled decimal spaced line refused_line plan_line resource_line resource_lines task_line plan_text outcome_text listing_of
+unfolding cases planning number_of names_of number_of_plan names_of_plan mark_of value_of joined spelled decimal spaced line refused_line plan_line resource_line resource_lines task_line plan_text outcome_text listing_of
 every_case = (refl, (refl, (refl, (refl, (refl, (refl, (refl, tt)))))))

@@ -6,7 +6,7 @@ use Rattle.table.specs.declared.Refusal.{Refusal}
 use Rattle.table.specs.Table.{number_of, names_of}
 use Rattle.plan.specs.declared.Plan.{Plan}
 use Rattle.plan.specs.declared.NoPlan.{NoPlan}
-use Rattle.plan.specs.Trial.{mark_number}
+use Rattle.plan.specs.Trial.{number_of as number_of_plan, names_of as names_of_plan, mark_of, value_of}
 use Rattle.plan.specs.Planning.{planned_of}
 use Rattle.listing.specs.Text.{line}
 
@@ -52,7 +52,7 @@ plan_text n m s serves processors d1s sections d2s =
 -- what comes of planning a table: the text of the plan, or refusal 11 with the row, the mark and the value of the last trial
 unfoldable pub outcome_text : Table → Result Plan NoPlan → List ℕ
 outcome_text t (Ok p) = plan_text t.n t.m p.s p.serves p.processor p.d1 p.section p.d2
-outcome_text t (Err e) = refused_line 11 e.row (mark_number e.mark) e.value
+outcome_text t (Err e) = refused_line (number_of_plan (Err e)) (names_of_plan (Err e)) (mark_of (Err e)) (value_of (Err e))
 
 -- what the program says of any bytes, by what they say as a table
 unfoldable pub listing_of : Result Table Refusal → List ℕ

@@ -3,10 +3,11 @@ use Prim.Native.Nat.{ℕ, zero, suc, ◌+◌, ◌-◌, ◌<◌, ◌≤◌}
 use mathlib.Core.Path.{◌≡◌, refl, sym, ◌∙◌, ap}
 use mathlib.Core.List.{List, [], ◌∷◌, ◌++◌, append_assoc}
 use native.Mathlib.Omega.{arith}
+use native.Mathlib.Numerals.{add-one}
 use native.Mathlib.Nat.{add-zero}
 use borrow.Rule.Slice.PartMut.{put_mid}
 use lib.ListN.{length, get_or, take, drop, set, length-set, length-drop}
-use lib.Seq.{sets, sets-eq, length-sets, set_comm, take_all, drop-cons, drop-drop, get_or-set_same, get_or-set_other, drop-set-lt}
+use lib.Seq.{sets, sets-eq, length-sets, set_comm, take_all, take-suc, length-take-le, drop-cons, drop-drop, get_or-set_same, get_or-set_other, drop-set-lt}
 
 module _ {A : Type 0} where
   -- stores one run behind the other are one run
@@ -39,6 +40,13 @@ module _ {A : Type 0} where
   get_or-within d (a ∷ u) l at (suc j) h m =
       let e : at + suc j ≡ suc at + j = omega arith in
       rw e (get_or-within d u (set l at a) (suc at) j (omega (arith, length-set l at a)) (omega arith))
+
+  -- one more store of a run that is copied
+  pub sets_more : (l : List A) (at : ℕ) (s : List A) (i : ℕ) (d : A) → i < length s → set (sets l at (take i s)) (at + i) (get_or s i d) ≡ sets l at (take (i + 1) s)
+  sets_more l at s i d h =
+      let n : length (take i s) ≡ i = length-take-le i s (omega arith) in
+      let e = sets-append l at (take i s) (get_or s i d ∷ []) in
+      rw (add-one, take-suc s i d h, sym e, n)
 
   -- a part that a run is copied over is a run of stores
   pub sets_mid : (l : List A) (at k : ℕ) (v u : List A) → v ≡ u → k ≡ length u → at + length u ≤ length l → put_mid at k l v ≡ sets l at u

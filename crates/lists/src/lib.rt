@@ -22,10 +22,12 @@ pub fn smaller(x: u32, y: u32) -> u32
 }
 
 // Stores bytes from place at of a buffer on.
-#[tactic(auto, using(crate::proofs::Sets::sets_mid))]
 pub fn store(out: &mut [u8], at: usize, bytes: &[u8])
     requires { at + length bytes.now ≤ length out.old }
     ensures { out.new ≡ sets out.old at bytes.now }
 {
-    out[at..at + bytes.len()].copy_from_slice(bytes);
+    // no copy_from_slice: it is memmove, which the archive would need of the C library beside memcpy and memset
+    for (k, byte) in bytes.iter().enumerate() {
+        out[at + k] = *byte;
+    }
 }

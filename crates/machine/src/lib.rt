@@ -177,10 +177,17 @@ fn release_each(
     let mut at = next;
     // over i: a row is read in several columns
     for i in 0..c.n {
-        let came = arrivals::brought(xs, at, t, i);
-        if came.is_some() || due[i] <= t {
-            release_row(jobs, due, &c.bounds, i, t, came)?;
-            at += usize::from(came.is_some());
+        match arrivals::brought(xs, at, t, i) {
+            Some(lens) => {
+                release_row(jobs, due, &c.bounds, i, t, Some(lens))?;
+                at += 1;
+            }
+            // two calls: with one for both, what comes is put together for each row, also where nothing does, and a run took longer
+            None => {
+                if due[i] <= t {
+                    release_row(jobs, due, &c.bounds, i, t, None)?;
+                }
+            }
         }
     }
     Ok(at)

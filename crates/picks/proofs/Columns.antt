@@ -1,8 +1,8 @@
 -- One pass over the rows keeps what each processor has to choose from.
 use Prim.Native.Nat.{ℕ, ◌+◌, ◌≤◌, ◌<◌, min}
 use mathlib.Core.Path.{◌≡◌, refl, sym, ◌∙◌, ap}
-use mathlib.Core.Bool.{true, false, not, ◌&&◌, and-false}
-use Rattle.std.specs.Prelude.{Option, None}
+use mathlib.Core.Bool.{Bool, true, false, not, ◌&&◌, and-true, and-false}
+use Rattle.std.specs.Prelude.{Option}
 use mathlib.Core.List.{List}
 use mathlib.Core.Logic.{dite}
 use native.Mathlib.Omega.{arith}
@@ -27,6 +27,14 @@ off_all homes q i Idle rests = (refl, refl)
 off_all homes q i (Waiting u j) rests = (refl, refl)
 off_all homes q i (Running j l) rests = absurd (rests j l refl)
 
+-- a test that p alone passes
+abbrev Only : ℕ → (ℕ → Bool) → Type 0
+Only p test = (test p ≡ true) × ((q : ℕ) → (q ≡ p → ⊥) → test q ≡ false)
+
+-- p alone is p
+only : {p : ℕ} {test : ℕ → Bool} → ((q : ℕ) → test q ≡ eqb p q) → Only p test
+only {p} same = (same p ∙ eq-eqb p p refl, λ q k. same q ∙ ne_eqb p q (λ e. k (sym e)))
+
 -- a place that runs part j on the processor p
 module _ (homes : List ℕ) (i j l p : ℕ) {x : Place} (at : x ≡ Running j l) (home_is : p ≡ home homes i j) where
   -- when it is a section on q, and when a stage
@@ -37,6 +45,13 @@ module _ (homes : List ℕ) (i j l p : ℕ) {x : Place} (at : x ≡ Running j l)
   stage_at : (q : ℕ) → stage_on homes q i x ≡ (not (eqb j 1) && eqb p q)
   unfolding stage_on
   stage_at q = ap (λ (y : Place). stage_on homes q i y) at ∙ rw home_is
+
+  -- a stage is one on its processor alone, and so is a section that passes a test of its mark
+  stage_on_lem : (j ≡ 1 → ⊥) → Only p (λ q. stage_on homes q i x)
+  stage_on_lem k = only (λ q. rw (stage_at q, ne_eqb j 1 k) refl)
+
+  section_on_lem : j ≡ 1 → (b : Bool) → b ≡ true → Only p (λ q. section_on homes q i x && b)
+  section_on_lem e b h = only (λ q. rw (section_at q, eq-eqb j 1 e, h) (and-true (eqb p q)))
 
   -- it is on no other processor
   elsewhere : (q : ℕ) → (q ≡ p → ⊥) → (section_on homes q i x ≡ false) × (stage_on homes q i x ≡ false)

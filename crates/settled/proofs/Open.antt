@@ -71,6 +71,6 @@ stretch_agrees κs a (Ok j, v) (Ok k, w) h p q = (
       let count : Result ℕ TooEarly → ℕ = elim [ Ok x ↦ x | Err d ↦ 0 ] in
       as_many (λ i. count (e i)) p.0.1 q.0.1 p.0.2 q.0.2 p.0.5.seek q.0.5.seek,
 )
-stretch_agrees κs a (Ok j, v) (Err e, w) h p q = absurd (not_apart p.0.0 q.1)
-stretch_agrees κs a (Err e, v) (Ok k, w) h p q = absurd (not_apart q.0.0 p.1)
-stretch_agrees κs a (Err d, v) (Err e, w) h p q = (p.1.0 ∙ sym q.1.0, λ l e. absurd (omega (arith, l, p.1.1)))
+stretch_agrees κs a (Ok j, v) (Err e, w) h p q = absurd (not_apart p.0.0 q.1.0)
+stretch_agrees κs a (Err e, v) (Ok k, w) h p q = absurd (not_apart q.0.0 p.1.0)
+stretch_agrees κs a (Err d, v) (Err e, w) h p q = (p.1.0.0 ∙ sym q.1.0.0, λ l e. absurd (omega (arith, l, p.1.0.1)))

@@ -68,6 +68,8 @@ use Rattle.arrivals.proofs.Fault.number as fault_number_proof
 use Rattle.arrivals.specs.declared.flat.Flat.{Flat}
 use Rattle.arrivals.specs.contracts.flat.Flat.new as flat_new_contract
 use Rattle.arrivals.proofs.flat.Flat.new as flat_new_proof
+use Rattle.arrivals.specs.contracts.flat.Flat.arrival as flat_arrival_contract
+use Rattle.arrivals.proofs.flat.Flat.arrival as flat_arrival_proof
 use Rattle.arrivals.specs.contracts.check_arrivals as check_arrivals_contract
 use Rattle.arrivals.proofs.check_arrivals as check_arrivals_proof
 use Rattle.arrivals.specs.contracts.brought as brought_contract
@@ -210,6 +212,9 @@ flat_new_settled κs a (Some x, v) (Some y, w) h p q = (ap Some (flat_same x y (
 flat_new_settled κs a (Some x, v) (None, w) h p q = absurd (true≢false (p.0 ∙ sym q.0))
 flat_new_settled κs a (None, v) (Some y, w) h p q = absurd (true≢false (q.0 ∙ sym p.0))
 flat_new_settled κs a (None, v) (None, w) h p q = (refl, refl)
+
+flat_arrival_settled : Settles flat_arrival_contract.ended flat_arrival_proof.Reads.Pre flat_arrival_proof.Reads.Post
+flat_arrival_settled κs a r s h p q = (p ∙ sym q, refl)
 
 check_arrivals_settled : Settles check_arrivals_contract.ended check_arrivals_proof.Reads.Pre check_arrivals_proof.Reads.Post
 check_arrivals_settled κs a r s h p q = (p ∙ sym q, refl)

@@ -251,15 +251,30 @@ term_in_lane_beside : (κs : _) → RuledOut add_contract.ended add_proof.Reads.
 unfolding blank
 term_in_lane_beside κs = ((omega arith, omega arith), λ p. seen (λ r. (get_or r 64 no_term).period) refl p.0)
 
--- `Lanes::new`: another number at each place
-lanes_of_another_number : (κs : _) (x : ℕ) → RuledOut new_contract.ended new_proof.Reads.Pre new_proof.Reads.Post κs tt (record { terms = blank 1088 (record { period = suc x; len = suc x }); count = blank 17 0 }, _)
-unfolding blank
-lanes_of_another_number κs x = (tt, λ p. seen (λ r. (get_or r 0 no_term).period) (eqb-suc-zero x) p.0)
+-- `Lanes::new` with these terms and counts
+abbrev BegunWith : (κs : Lfts (new_contract.ended).signature.lifetimes) → List Term → List ℕ → Type 0
+BegunWith κs terms count = RuledOut new_contract.ended new_proof.Reads.Pre new_proof.Reads.Post κs tt (record { terms = terms; count = count }, _)
 
--- `Lanes::new`: the last place left out
-lanes_but_the_last : (κs : _) → RuledOut new_contract.ended new_proof.Reads.Pre new_proof.Reads.Post κs tt (record { terms = set (blank 1088 no_term) 1087 term; count = blank 17 0 }, _)
+-- no terms of which one at place k has a period or a length
+abbrev NoneAt : (κs : Lfts (new_contract.ended).signature.lifetimes) → ℕ → Type 0
+NoneAt κs k = (terms : List Term) (count : List ℕ) (x : ℕ)
+    → ((get_or terms k no_term).period ≡ suc x → BegunWith κs terms count) × ((get_or terms k no_term).len ≡ suc x → BegunWith κs terms count)
+
+-- `Lanes::new`: another number at the first place and so at each, as the period or as the length, whatever all else is
+lanes_of_another_number : (κs : _) → NoneAt κs 0
 unfolding blank
-lanes_but_the_last κs = (tt, λ p. seen (λ r. (get_or r 1087 no_term).period) refl p.0)
+lanes_of_another_number κs terms count x = (
+  (λ h. (tt, λ p. seen (λ r. (get_or r 0 no_term).period) (rw h (eqb-suc-zero x)) p.0)),
+  (λ h. (tt, λ p. seen (λ r. (get_or r 0 no_term).len) (rw h (eqb-suc-zero x)) p.0)),
+)
+
+-- `Lanes::new`: the last place left out, as the period or as the length, whatever all else is
+lanes_but_the_last : (κs : _) → NoneAt κs 1087
+unfolding blank
+lanes_but_the_last κs terms count x = (
+  (λ h. (tt, λ p. seen (λ r. (get_or r 1087 no_term).period) (rw h (eqb-suc-zero x)) p.0)),
+  (λ h. (tt, λ p. seen (λ r. (get_or r 1087 no_term).len) (rw h (eqb-suc-zero x)) p.0)),
+)
 
 -- ---- spread
 

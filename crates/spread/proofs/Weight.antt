@@ -11,6 +11,7 @@ use native.Mathlib.Numerals.{add-one}
 use lib.ListN.{length, get_or, take, drop, length-drop}
 use lib.Dec.{ltb}
 use Rattle.std.specs.List.{count_by}
+use Rattle.std.specs.Int.{div_ceil}
 use Rattle.std.proofs.lemmas.Grind.{div_ceil_times, get_or_after_one}
 use Rattle.lists.proofs.Tab.{get_or-tab}
 use Rattle.lists.proofs.Count.{counted, count_ext, count-le, count_all}
@@ -27,6 +28,10 @@ rounded_up t period some =
     let up : q ≤ (t + (period - 1)) / period = (le-div_iff_mul-le some).1 (omega arith) in
     let down : (t + (period - 1)) / period < suc q = (div-lt_iff_lt-mul some).1 (omega (arith, suc-mul q period)) in
     omega arith
+
+-- the same of an answer of std's rounding up, and of what it was asked for
+pub rounded : {r x p : ℕ} (t period : ℕ) → r ≡ div_ceil x p → x ≡ t → p ≡ period → 1 ≤ period → r ≡ ceil t period
+rounded t period q e f some = q ∙ rw (e, f) (rounded_up t period some)
 
 -- a user weighs at most a million, since its section is no longer than its period
 pub user_le : (section period : ℕ) → 1 ≤ period → section ≤ period → ceil (section * 1000000) period ≤ 1000000

@@ -55,7 +55,8 @@ fn all_go_on(jobs: &[u32; 576], picked: &[u32; 17], c: &Chart, most: u32) -> u32
 {
     let mut ticks = most;
     for row in picked {
-        if let Some(i) = (*row as usize).checked_sub(1) {
+        if *row > 0 {
+            let i = *row as usize - 1;
             let x = jobs::job_at(jobs, i);
             ticks = goes_on(x, c.rank[i], c.top[i], ticks);
         }
@@ -76,7 +77,8 @@ fn note_rows(
     ensures { worst.new ≡ noted_to c.now.bounds (t + k) (tab 64 (λ i. push t k (job_in jobs.now i))) picked.now c.now.m worst.old }
 {
     for row in &picked[1..=c.m] {
-        if let Some(i) = (*row as usize).checked_sub(1) {
+        if *row > 0 {
+            let i = *row as usize - 1;
             let x = jobs::job_at(jobs, i);
             let y = chain::push(x, t, k);
             machine::note(y, i, &c.bounds, t + k, worst);
@@ -120,7 +122,8 @@ fn run_rows(
         × (length jobs.new ≡ 576) × (length due.new ≡ 64) }
 {
     for row in picked {
-        if let Some(i) = (*row as usize).checked_sub(1) {
+        if *row > 0 {
+            let i = *row as usize - 1;
             run_row(jobs, due, i, picked, c, t, k);
         }
     }
@@ -156,6 +159,7 @@ pub fn stretch(
         × (0 < ticks) × (t + ticks ≤ e) × Dues c.now.n c.now.bounds (jobs_in s.new.jobs) s.new.due × Coming c.now.n (listed xs.now) s.new.next (t + ticks)
         × (length s.new.jobs ≡ 576) × (length s.new.due ≡ 64)) }
     ensures err { IfErr result (λ w. (w.row ≡ late_row c.now.n c.now.bounds (brings (listed xs.now)) t (jobs_in s.old.jobs)) × (w.row < c.now.n)) }
+    ensures kept { IfErr result (λ w. s.new.next ≡ s.old.next) }
 {
     let next = machine::release_rows(&mut s.jobs, &mut s.due, c, t, xs, s.next)?;
     s.next = next;

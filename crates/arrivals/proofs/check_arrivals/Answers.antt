@@ -18,7 +18,7 @@ use Rattle.lists.proofs.Tab.{length-blank, get_or-blank}
 use Rattle.arrivals.specs.Arrival.{Arrival, arrival_at, listed}
 use Rattle.arrivals.specs.Check.{Fault, Unheard, last_of, fault_number, number_by, number_at}
 use Rattle.arrivals.proofs.Numbers.{length_listed}
-use Rattle.arrivals.proofs.Fine.{fine, heard_bad, heard_none}
+use Rattle.arrivals.proofs.Fine.{fine, heard_fault, heard_none}
 use Rattle.arrivals.proofs.check_arrivals.Invariants.{Kept}
 use Rattle.arrivals.proofs.check_arrivals.Goals as goal
 
@@ -61,7 +61,7 @@ returns-in_err-map_err c =
     let t = c.args.t.now in
     let l = c.loop-k in
     let b : number_at t.n t.period t.c1 t.a t.c2 (listed xs) l.k-counter ≡ fault_number f = sym c.check_at.ensures ∙ q in
-    let r = heard_bad t.n t.period t.c1 t.a t.c2 (listed xs) l.k-counter f (omega (arith, length_listed xs)) l.invariant.good b in
+    let r = heard_fault t.n t.period t.c1 t.a t.c2 (listed xs) l.k-counter f (omega (arith, length_listed xs)) l.invariant.good b in
     let k : e ≡ record { fault = f; position = l.k-counter + 1 } = search rules in
     p.1 ∙ ap (λ (x : Unheard). Err x) (p.2 ∙ k) ∙ sym r
 

@@ -6,6 +6,7 @@ use Rattle.table.specs.Good.{GoodTable}
 use Rattle.table.proofs.Good.{table_good}
 use Rattle.plan.specs.Planning.{is_planned}
 use Rattle.plan.proofs.Covers.{plan_fits}
+use Rattle.plan.specs.Trial.{number_of, names_of, mark_of, value_of}
 use Rattle.listing.specs.Listing.{outcome_text, listing_of}
 use Rattle.listing.proofs.write_listing.Goals as goal
 
@@ -19,7 +20,7 @@ pub plan_table-requires : goal.plan_table-requires
 plan_table-requires c = table_good c.args.bytes.now (Ok c.in-Ok.t) c.in-Ok.ensures refl
 
 pub returns-in-Err-plan_table : goal.returns-in-Err-plan_table
-unfolding listing_of outcome_text
+unfolding number_of names_of mark_of value_of listing_of outcome_text
 returns-in-Err-plan_table c =
     let w = rw c.number-in-Err-plan_table.ensures at c.put_refused-in-Err-plan_table.ensures.0 in
     (rw (← c.in-Ok.ensures, ← c.in-Err-plan_table.ensures) w, omega arith)

@@ -29,13 +29,13 @@ loop-i-preserved c =
     elim c.match-x.branch [
       | in-Running+then-part-ne1 w ↦
           rw w.offers-is
-          (columns_stage _ _ _ _ _ _ l.invariant _ job w.in-Running.part w.in-Running.left _ w.in-Running.is w.home_of-q.ensures.0 w.home_of-q.ensures.1 _ w.if-part-ne1.true (w.against-o.ensures ltb (λ k b r p. search (rules, p))))
+          (columns_stage _ _ _ _ _ _ l.invariant _ job w.in-Running.part w.in-Running.left _ w.in-Running.is w.home_of-q.ensures.0 w.home_of-q.ensures.1 _ w.if-part-ne1.true (w.against.ensures ltb (λ k b r p. search (rules, p))))
       | in-Running+else-part-ne1+then-x-eq0 w ↦
           rw w.offers-is
-          (columns_first _ _ _ _ _ _ l.invariant _ job w.in-Running.part w.in-Running.left _ w.in-Running.is w.home_of-q.ensures.0 w.home_of-q.ensures.1 _ w.if-part-ne1.false w.if-x-eq0.true (w.against-o-then-x-eq0.ensures ltb (λ k b r p. search (rules, p))))
+          (columns_first _ _ _ _ _ _ l.invariant _ job w.in-Running.part w.in-Running.left _ w.in-Running.is w.home_of-q.ensures.0 w.home_of-q.ensures.1 _ w.if-part-ne1.false w.if-x-eq0.true (w.against-then-x-eq0.ensures ltb (λ k b r p. search (rules, p))))
       | in-Running+else-part-ne1+else-x-eq0 w ↦
           rw w.offers-is
-          (columns_held _ _ _ _ _ _ l.invariant _ job w.in-Running.part w.in-Running.left _ w.in-Running.is w.home_of-q.ensures.0 w.home_of-q.ensures.1 _ _ w.if-part-ne1.false w.if-x-eq0.false (w.against-o-else-x-eq0.ensures gtb (λ k b r p. search (rules, p))) w.smaller-o.ensures)
+          (columns_held _ _ _ _ _ _ l.invariant _ job w.in-Running.part w.in-Running.left _ w.in-Running.is w.home_of-q.ensures.0 w.home_of-q.ensures.1 _ _ w.if-part-ne1.false w.if-x-eq0.false (w.against-else-x-eq0.ensures gtb (λ k b r p. search (rules, p))) w.smaller-o.ensures)
       | in_default w ↦ rw w.offers-is (columns_idle _ _ _ _ _ _ l.invariant _ job w.in_default.not-Running)
     ]
 

@@ -15,7 +15,7 @@ use Rattle.chain.specs.Unit.{push}
 use Rattle.jobs.specs.Numbers.{job_in}
 use Rattle.machine.specs.Tick.{noted_at, noted, noted_to}
 use Rattle.stretch.proofs.Running.{push_fits, push_good}
-use Rattle.stretch.proofs.note_rows.Goals.{in-Some, in_default}
+use Rattle.stretch.proofs.note_rows.Goals.{then-row-gt0, else-row-gt0}
 use Rattle.stretch.proofs.note_rows.Goals as goal
 
 -- the rows of m processors, and each of them
@@ -26,6 +26,10 @@ row_at : (picked : List ℕ) (m q : ℕ) → q < m → get_or (take (m + 1 - 1) 
 row_at picked m q h =
     let n : 1 + q ≡ suc q = omega arith in
     get_or-take (m + 1 - 1) (drop 1 picked) q 0 (omega arith) ∙ get_or-drop 1 picked q 0 ∙ ap (λ (k : ℕ). get_or picked k 0) n
+
+-- where a processor picks a row, that row
+picked_row : (picked : List ℕ) (m q : ℕ) → m ≤ 16 → length picked ≡ 17 → q < length (take (m + 1 - 1) (drop 1 picked)) → 0 < get_or (take (m + 1 - 1) (drop 1 picked)) q 0 → get_or picked (suc q) 0 ≡ suc (get_or (take (m + 1 - 1) (drop 1 picked)) q 0 - 1)
+picked_row picked m q h l b p = omega (arith, p, row_at picked m q (omega (arith, b, rows-length picked m h l)))
 
 module _ (bounds : List ℕ) (t : ℕ) (f : ℕ → Job) (picked old : List ℕ) (q : ℕ) (worst : List ℕ) (e : worst ≡ noted_to bounds t (tab 64 f) picked q old) where
   noted_next : noted bounds t (tab 64 f) (get_or picked (suc q) 0) worst ≡ noted_to bounds t (tab 64 f) picked (q + 1) old
@@ -52,22 +56,22 @@ pub job_at-x-requires : goal.job_at-x-requires
 job_at-x-requires c =
     let a = c.args in
     let q = c.loop-row.row-index in
-    let n = rows-length a.picked.now a.c.now.m c.requires.0 c.told-picked in
-    (c.requires.3 (suc q) c.in-Some.i (omega arith) (omega (arith, row_at a.picked.now a.c.now.m q (omega arith)))).0
+    let z = picked_row a.picked.now a.c.now.m q c.requires.0 c.told-picked c.loop-row-test.true c.if-row-gt0.true in
+    (c.requires.3 (suc q) _ (omega arith) z).0
 
 pub push-y-requires : goal.push-y-requires
 push-y-requires c =
     let a = c.args in
     let q = c.loop-row.row-index in
-    let n = rows-length a.picked.now a.c.now.m c.requires.0 c.told-picked in
-    push_fits (c.requires.3 (suc q) c.in-Some.i (omega arith) (omega (arith, row_at a.picked.now a.c.now.m q (omega arith)))).1 c.job_at-x.ensures c.requires.1
+    let z = picked_row a.picked.now a.c.now.m q c.requires.0 c.told-picked c.loop-row-test.true c.if-row-gt0.true in
+    push_fits (c.requires.3 (suc q) _ (omega arith) z).1 c.job_at-x.ensures c.requires.1
 
 pub note-requires : goal.note-requires
 note-requires c =
     let a = c.args in
     let q = c.loop-row.row-index in
-    let n = rows-length a.picked.now a.c.now.m c.requires.0 c.told-picked in
-    let p = c.requires.3 (suc q) c.in-Some.i (omega arith) (omega (arith, row_at a.picked.now a.c.now.m q (omega arith))) in
+    let z = picked_row a.picked.now a.c.now.m q c.requires.0 c.told-picked c.loop-row-test.true c.if-row-gt0.true in
+    let p = c.requires.3 (suc q) _ (omega arith) z in
     (p.0, c.requires.1, c.requires.2, push_good p.1 c.job_at-x.ensures c.push-y.ensures)
 
 pub loop-row-preserved : goal.loop-row-preserved
@@ -75,12 +79,12 @@ loop-row-preserved c =
     let a = c.args in
     let l = c.loop-row in
     let f : ℕ → Job = λ i. push a.t a.k (job_in a.jobs.now i) in
-    let n = rows-length a.picked.now a.c.now.m c.requires.0 c.told-picked in
-    let r = row_at a.picked.now a.c.now.m l.row-index (omega arith) in
-    elim c.match-checked_sub.branch [
-      | in-Some w ↦
-          let i = w.in-Some.i in
-          let z : get_or a.picked.now (suc l.row-index) 0 ≡ suc i = omega (arith, w.in-Some.ensures) in
-          w.worst-is ∙ noted_more a.c.now.bounds (a.t + a.k) f a.picked.now a.worst.now l.row-index l.worst l.invariant i w.push-y.result _ z (c.requires.3 (suc l.row-index) i (omega arith) z).0 (w.push-y.ensures ∙ ap (λ (x : Job). push a.t a.k x) w.job_at-x.ensures) w.note.ensures
-      | in_default w ↦ w.worst-is ∙ noted_none a.c.now.bounds (a.t + a.k) f a.picked.now a.worst.now l.row-index l.worst l.invariant (omega (arith, w.in_default.ensures))
+    elim c.if-row-gt0.branch [
+      | then-row-gt0 w ↦
+          let z = picked_row a.picked.now a.c.now.m l.row-index c.requires.0 c.told-picked c.loop-row-test.true w.if-row-gt0.true in
+          w.worst-is ∙ noted_more a.c.now.bounds (a.t + a.k) f a.picked.now a.worst.now l.row-index l.worst l.invariant _ w.push-y.result _ z (c.requires.3 (suc l.row-index) _ (omega arith) z).0 (w.push-y.ensures ∙ ap (λ (x : Job). push a.t a.k x) w.job_at-x.ensures) w.note.ensures
+      | else-row-gt0 w ↦
+          let n = rows-length a.picked.now a.c.now.m c.requires.0 c.told-picked in
+          let r = row_at a.picked.now a.c.now.m l.row-index (omega arith) in
+          w.worst-is ∙ noted_none a.c.now.bounds (a.t + a.k) f a.picked.now a.worst.now l.row-index l.worst l.invariant (omega (arith, w.if-row-gt0.false))
     ]

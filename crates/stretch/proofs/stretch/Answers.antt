@@ -103,4 +103,5 @@ returns c =
         ran.ensures.3,
       );
       err = tt;
+      kept = tt;
     }
