@@ -167,8 +167,8 @@ pub fn brought(xs: &Flat, next: usize, t: u32, i: usize) -> Option<[u32; 3]>
     if next >= xs.count {
         return None;
     }
-    // no arrival(next): this is asked of each row of a tick with a release, mostly the tick or the row is another, and a run took a
-    // quarter more where all five numbers were read first
+    // no arrival(next): this is asked of each row of a tick with a release, and only for the row that the arrival is of are its
+    // lengths read
     let at = 5 * next;
     if xs.numbers[at] != t || xs.numbers[at + 1] as usize != i + 1 {
         return None;

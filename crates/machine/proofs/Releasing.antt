@@ -24,7 +24,7 @@ use Rattle.arrivals.proofs.Seeking.{seek_comes, seek_next, seek_tick}
 use Rattle.chain.specs.declared.Job.{Job}
 use Rattle.chain.specs.Job.{no_job, job_at}
 use Rattle.chain.specs.Release.{released, late, due_of}
-use Rattle.chain.specs.Good.{GoodJob, Small}
+use Rattle.chain.specs.Good.{GoodBounds, GoodJob, Small}
 use Rattle.chain.proofs.Before.{released_before, late_before}
 use Rattle.jobs.specs.Numbers.{job_in, jobs_in}
 use Rattle.jobs.proofs.Laws.{length-jobs, jobs_at_lem}
@@ -86,8 +86,12 @@ module _ {n next t : ℕ} {bounds start dues₀ : List ℕ} {xs : List Arrival} 
     waits = sym (jobs_at_lem flat i (omega (arith, held.few))) ∙ get_or-next (after bounds xs t start) (jobs_in start) i (jobs_in flat) w.jobs no_job
 
     -- so it is good
-    pub good_here : GoodJob (job_in flat i) × Small t (job_in flat i)
+    good_here : GoodJob (job_in flat i) × Small t (job_in flat i)
     good_here = rw waits (held.good i h)
+
+    -- and its release has what it asks for
+    pub asked : t < 1000000 → GoodBounds bounds → (i < 64) × (t < 1000000) × GoodBounds bounds × GoodJob (job_in flat i) × ((job_in flat i).ended < 4294967294)
+    asked early good = (omega (arith, held.few, h), early, good, good_here.0, omega (arith, early, good_here.1.ended))
 
     module _ (came : Option (List ℕ)) (here : came ≡ arrives xs i t at) where
       -- it is what the arrival of the row brings
@@ -99,9 +103,13 @@ module _ {n next t : ℕ} {bounds start dues₀ : List ℕ} {xs : List Arrival} 
       late_here = rw (waits, brought)
 
       -- the row is the first with a release that comes too early
-      pub is_late_lem : true ≡ late bounds i t (job_in flat i) came → i ≡ late_row n bounds (brings xs) t (jobs_in start)
+      is_late_lem : true ≡ late bounds i t (job_in flat i) came → i ≡ late_row n bounds (brings xs) t (jobs_in start)
       unfolding late_row
       is_late_lem l = sym (first_is n (behind bounds xs t start) i h w.on_time (sym (l ∙ late_here)))
+
+      -- which is what an error tells
+      pub tells : (row : ℕ) → (row ≡ i) × (late bounds i t (job_in flat i) came ≡ true) → (row ≡ late_row n bounds (brings xs) t (jobs_in start)) × (row < n)
+      tells row e = (e.0 ∙ is_late_lem (sym e.1), omega (arith, e.0, h))
 
       -- whether one came is whether the arrival there is the row's
       whether : is_some came ≡ (ltb at (length xs) && is_of xs i t at)

@@ -150,22 +150,25 @@ fn put_lanes(lane: &[u8], trace: &mut [u8], at: usize, ticks: usize)
     }
 }
 
-// Steps the machine through `ticks` ticks, from tick `from` on, and writes their bytes at the front of the trace, as many for each
-// as the lane is long: one for each processor, or none.
+// Steps the machine through `ticks` ticks, from tick `from` on, and writes the bytes of the first `shown` processors at the front of
+// the trace, tick by tick: of all of them, or of none.
 fn play(
     c: &Chart,
     xs: &Flat,
     from: usize,
     ticks: usize,
     s: &mut State,
-    lane: &mut [u8],
+    shown: usize,
     trace: &mut [u8],
 ) -> Result<(), TooEarly>
-    requires { (from + ticks ≤ 1000000) × GoodChart c.now × (length lane.old ≤ 16) × (length lane.old * ticks ≤ length trace.old) × Stands c.now (listed xs.now) from s.old.jobs s.old.due s.old.worst s.old.next }
-    ensures ok { IfOk result (λ u. Stands c.now (listed xs.now) (from + ticks) s.new.jobs s.new.due s.new.worst s.new.next × (length lane.old ≡ c.now.m → trace.new ≡ log c.now (listed xs.now) from ticks ++ drop (c.now.m * ticks) trace.old)) }
+    requires { (from + ticks ≤ 1000000) × GoodChart c.now × (shown ≤ 16) × (shown * ticks ≤ length trace.old) × Stands c.now (listed xs.now) from s.old.jobs s.old.due s.old.worst s.old.next }
+    ensures ok { IfOk result (λ u. Stands c.now (listed xs.now) (from + ticks) s.new.jobs s.new.due s.new.worst s.new.next × (shown ≡ c.now.m → trace.new ≡ log c.now (listed xs.now) from ticks ++ drop (c.now.m * ticks) trace.old)) }
     ensures err { IfErr result (λ e. Falls c.now (listed xs.now) (from + ticks) e.row) }
-    ensures rest { length lane.old ≡ c.now.m → drop (c.now.m * ticks) trace.new ≡ drop (c.now.m * ticks) trace.old }
+    ensures rest { shown ≡ c.now.m → drop (c.now.m * ticks) trace.new ≡ drop (c.now.m * ticks) trace.old }
 {
+    // no lane from outside: only of one of its own does the compiler know that it is no part of the trace
+    let mut bytes = [0u8; 16];
+    let lane = &mut bytes[..shown];
     let mut k = 0;
     // a while: each stretch says how far it goes
     while k < ticks {
@@ -190,9 +193,8 @@ fn wind_and_play(
     ensures err { IfErr result (λ e. Falls c.now (listed xs.now) (from + ticks) e.row) }
     ensures rest { drop (c.now.m * ticks) trace.new ≡ drop (c.now.m * ticks) trace.old }
 {
-    let mut lane = [0u8; 16];
-    play(c, xs, 0, from, s, &mut lane[..0], &mut trace[..0])?;
-    play(c, xs, from, ticks, s, &mut lane[..c.m], trace)
+    play(c, xs, 0, from, s, 0, &mut trace[..0])?;
+    play(c, xs, from, ticks, s, c.m, trace)
 }
 
 // Steps the ticks of a run and writes those of its window.

@@ -1,12 +1,12 @@
 -- `machine::release_each` meets its contract: the first i rows have their releases, none of them too early.
-use mathlib.Core.Path.{◌≡◌, sym, ◌∙◌}
+use mathlib.Core.Path.{◌≡◌, sym}
 use native.Mathlib.Omega.{arith}
 use native.Mathlib.Nat.{add-zero}
 use Rattle.std.specs.Prelude.{Some, None}
 use Rattle.std.proofs.lemmas.Result.{err_from_is_err_and}
 use Rattle.arrivals.specs.Arrival.{listed}
 use Rattle.arrivals.proofs.Numbers.{length_listed}
-use Rattle.machine.proofs.Releasing.{arrives, started, good_here, is_late_lem, goes_on, stays, all_in}
+use Rattle.machine.proofs.Releasing.{arrives, started, asked, tells, goes_on, stays, all_in}
 use Rattle.machine.proofs.release_each.Goals.{in-Some+in_ok-release_row-in-Some, in-None+then-due-i+in_ok-release_row-in-None, in-None+else-due-i}
 use Rattle.machine.proofs.release_each.Goals as goal
 
@@ -14,32 +14,22 @@ pub loop-i-init : goal.loop-i-init
 loop-i-init c = started c.requires.2 c.requires.3
 
 pub release_row-requires : goal.release_row-requires
-release_row-requires c =
-    let l = c.loop-i in
-    let g = good_here c.requires.2 c.requires.3 l.invariant (omega arith) in
-    (omega (arith, c.requires.2.few), c.requires.0, c.requires.1, g.0, omega (arith, g.1.ended))
+release_row-requires c = asked c.requires.2 c.requires.3 c.loop-i.invariant (omega arith) c.requires.0 c.requires.1
 
 pub release_row-requires-then-due-i : goal.release_row-requires-then-due-i
-release_row-requires-then-due-i c =
-    let l = c.loop-i in
-    let g = good_here c.requires.2 c.requires.3 l.invariant (omega arith) in
-    (omega (arith, c.requires.2.few), c.requires.0, c.requires.1, g.0, omega (arith, g.1.ended))
+release_row-requires-then-due-i c = asked c.requires.2 c.requires.3 c.loop-i.invariant (omega arith) c.requires.0 c.requires.1
 
 pub returns-in_err-release_row-in-Some-clause-err : goal.returns-in_err-release_row-in-Some-clause-err
 returns-in_err-release_row-in-Some-clause-err c =
     let here : Some c.in-Some.lens ≡ arrives (listed c.args.xs.now) c.loop-i.i c.args.t c.loop-i.at = rw (length_listed c.args.xs.now) c.in-Some.ensures in
-    let e = c.in_err-release_row-in-Some.ensures.err in
-    let first = is_late_lem c.requires.2 c.requires.3 c.loop-i.invariant (omega arith) (Some c.in-Some.lens) here (sym e.1) in
     let p = err_from_is_err_and c.from_residual.result c.from_residual.ensures.1 in
-    rw (p.1, p.2) (e.0 ∙ first, omega (arith, e.0))
+    rw (p.1, p.2) (tells c.requires.2 c.requires.3 c.loop-i.invariant (omega arith) (Some c.in-Some.lens) here _ c.in_err-release_row-in-Some.ensures.err)
 
 pub returns-in_err-release_row-in-None-clause-err : goal.returns-in_err-release_row-in-None-clause-err
 returns-in_err-release_row-in-None-clause-err c =
     let here : None ≡ arrives (listed c.args.xs.now) c.loop-i.i c.args.t c.loop-i.at = rw (length_listed c.args.xs.now) c.in-None.ensures in
-    let e = c.in_err-release_row-in-None.ensures.err in
-    let first = is_late_lem c.requires.2 c.requires.3 c.loop-i.invariant (omega arith) None here (sym e.1) in
     let p = err_from_is_err_and c.from_residual-in_err-release_row-in-None.result c.from_residual-in_err-release_row-in-None.ensures.1 in
-    rw (p.1, p.2) (e.0 ∙ first, omega (arith, e.0))
+    rw (p.1, p.2) (tells c.requires.2 c.requires.3 c.loop-i.invariant (omega arith) None here _ c.in_err-release_row-in-None.ensures.err)
 
 pub loop-i-preserved : goal.loop-i-preserved
 loop-i-preserved c =

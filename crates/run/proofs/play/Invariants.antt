@@ -11,8 +11,8 @@ use Rattle.run.proofs.play.Given as goal
 
 abbrev pub invariant-loop-k : goal.invariant-loop-k
 invariant-loop-k l =
-    (l.k ≤ l.ticks) × Stands l.c (listed l.xs) (l.from + l.k) l.s.jobs l.s.due l.s.worst l.s.next
-    × (length l.initial.lane ≡ l.c.m → l.trace ≡ sets l.initial.trace 0 (log l.c (listed l.xs) l.from l.k))
+    (l.k ≤ l.ticks) × (length l.lane ≡ l.shown) × Stands l.c (listed l.xs) (l.from + l.k) l.s.jobs l.s.due l.s.worst l.s.next
+    × (l.shown ≡ l.c.m → l.trace ≡ sets l.initial.trace 0 (log l.c (listed l.xs) l.from l.k))
 
 abbrev pub decreases-loop-k : goal.decreases-loop-k
 decreases-loop-k l = l.ticks - l.k

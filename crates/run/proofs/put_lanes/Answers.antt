@@ -1,6 +1,6 @@
 -- `run::put_lanes` meets its contract: the lane is written k times, one behind the other.
 use Prim.Native.Nat.{ℕ, zero, suc, ◌+◌, ◌*◌, ◌≤◌}
-use mathlib.Core.List.{List, [], ◌++◌}
+use mathlib.Core.List.{List, []}
 use Rattle.std.proofs.lemmas.List.{nil_from_length}
 use mathlib.Core.Path.{◌≡◌, refl}
 use native.Mathlib.Omega.{arith}
