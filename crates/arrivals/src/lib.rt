@@ -167,8 +167,7 @@ pub fn brought(xs: &Flat, next: usize, t: u32, i: usize) -> Option<[u32; 3]>
     if next >= xs.count {
         return None;
     }
-    // no arrival(next): this is asked of each row of a tick with a release, and only for the row that the arrival is of are its
-    // lengths read
+    // no arrival(next): each row of a tick with a release asks this, and only the one whose arrival it is needs the lengths
     let at = 5 * next;
     if xs.numbers[at] != t || xs.numbers[at + 1] as usize != i + 1 {
         return None;

@@ -86,7 +86,7 @@ module _ {n next t : ℕ} {bounds start dues₀ : List ℕ} {xs : List Arrival} 
     waits = sym (jobs_at_lem flat i (omega (arith, held.few))) ∙ get_or-next (after bounds xs t start) (jobs_in start) i (jobs_in flat) w.jobs no_job
 
     -- so it is good
-    good_here : GoodJob (job_in flat i) × Small t (job_in flat i)
+    pub good_here : GoodJob (job_in flat i) × Small t (job_in flat i)
     good_here = rw waits (held.good i h)
 
     -- and its release has what it asks for
@@ -103,7 +103,7 @@ module _ {n next t : ℕ} {bounds start dues₀ : List ℕ} {xs : List Arrival} 
       late_here = rw (waits, brought)
 
       -- the row is the first with a release that comes too early
-      is_late_lem : true ≡ late bounds i t (job_in flat i) came → i ≡ late_row n bounds (brings xs) t (jobs_in start)
+      pub is_late_lem : true ≡ late bounds i t (job_in flat i) came → i ≡ late_row n bounds (brings xs) t (jobs_in start)
       unfolding late_row
       is_late_lem l = sym (first_is n (behind bounds xs t start) i h w.on_time (sym (l ∙ late_here)))
 

@@ -27,8 +27,8 @@ struct Offer {
     held: u32,
 }
 
-// Puts row i in place of the best so far, if there is one, where its key comes first. In its place, and no answer that is stored:
-// where the best so far stays, nothing is written.
+// Puts row i in place of the best so far, if there is one, where its key comes first. The best so far is lent to be changed: where it
+// stays, nothing is written.
 fn against<F: Fn(u32, u32) -> bool>(b: &mut Option<Best>, i: usize, key: u32, ahead: F)
     requires { (i < 64) × F.IsAlwaysCallable ahead }
     ensures { (order : ℕ → ℕ → Bool) → ((k : ℕ) → k < 4294967296 → (r : Bool) → F.post ahead key k r → r ≡ order key k) → b.new ≡ against_lem order b.old i key }
